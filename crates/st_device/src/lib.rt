@@ -1,0 +1,10 @@
+//! What the store sees of the outside: traits with a ghost meaning and a count of faults, a small form of each in
+//! memory, and the real ones.
+//!
+//! A call answers `Failed` only where the count of that object rose in the call, or stands at its end. Code that is
+//! generic over these traits can't raise a count, so a layer above can't give up without a fault.
+#![tactic(auto)]
+
+mod failed;
+
+pub use failed::Failed;
