@@ -1,2 +1,4 @@
 pub mod Bytes
+pub mod Entries
+pub mod Map
 pub mod Names

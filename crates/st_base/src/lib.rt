@@ -13,7 +13,7 @@ mod list;
 mod name;
 mod value;
 
-pub use entry::{Entries, Entry, Mark};
+pub use entry::{Entries, Entry, KeyRange, Mark};
 pub use family::Family;
 pub use fault::MakeFault;
 pub use key::Key;
