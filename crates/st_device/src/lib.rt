@@ -6,5 +6,9 @@
 #![tactic(auto)]
 
 mod failed;
+mod inputs;
+mod sink;
 
 pub use failed::Failed;
+pub use inputs::Inputs;
+pub use sink::Sink;
