@@ -1,3 +1,4 @@
 pub mod Count
+pub mod FileRead
 pub mod Inputs
 pub mod Sink

@@ -7,8 +7,12 @@
 
 mod failed;
 mod inputs;
+mod reading;
 mod sink;
+mod writing;
 
 pub use failed::Failed;
 pub use inputs::Inputs;
+pub use reading::{FileRead, ReadFault, read_file};
 pub use sink::Sink;
+pub use writing::write_all;
