@@ -1,4 +1,7 @@
 pub mod Count
 pub mod FileRead
 pub mod Inputs
+pub mod MemInputs
+pub mod MemInputsState
+pub mod Schedule
 pub mod Sink

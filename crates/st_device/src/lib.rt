@@ -7,12 +7,15 @@
 
 mod failed;
 mod inputs;
+mod mem_inputs;
 mod reading;
+mod schedule;
 mod sink;
 mod writing;
 
 pub use failed::Failed;
 pub use inputs::Inputs;
+pub use mem_inputs::{InputFile, MemInputs};
 pub use reading::{FileRead, ReadFault, read_file};
 pub use sink::Sink;
 pub use writing::write_all;
