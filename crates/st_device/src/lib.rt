@@ -6,6 +6,7 @@
 #![tactic(auto)]
 
 mod failed;
+mod folder_inputs;
 mod inputs;
 mod mem_inputs;
 mod mem_sink;
@@ -16,6 +17,7 @@ mod std_sink;
 mod writing;
 
 pub use failed::Failed;
+pub use folder_inputs::FolderInputs;
 pub use inputs::Inputs;
 pub use mem_inputs::{InputFile, MemInputs};
 pub use mem_sink::MemSink;

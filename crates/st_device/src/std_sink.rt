@@ -3,6 +3,10 @@ ghost use Rattle.st_device.specs.Sink.{SinkTold};
 
 use crate::schedule::raised;
 use crate::{Failed, Sink};
+use std::io::ErrorKind;
+
+// How many writes of one call a signal may cut short before the call gives up.
+const TRIES: usize = 64;
 
 /// Standard output. What it takes is out when the call answers. What was written isn't known to contracts.
 #[derive(Drop)]
@@ -25,12 +29,14 @@ impl<R: Print> Sink for StdSink<R> {
     ghost counted = { λ sink. sink.small };
 
     fn write(&mut self, bytes: &[u8]) -> Result<usize, Failed> {
-        match self.rt.write_some(bytes) {
-            Ok(n) if n > 0 || bytes.len() == 0 => Ok(n),
-            _ => {
-                self.faults = raised(self.faults);
-                Err(Failed)
+        for _ in 0..TRIES {
+            match self.rt.write_some(bytes) {
+                Ok(n) if n > 0 || bytes.is_empty() => return Ok(n),
+                Err(error) if error.kind() == ErrorKind::Interrupted => {}
+                _ => break,
             }
         }
+        self.faults = raised(self.faults);
+        Err(Failed)
     }
 }
