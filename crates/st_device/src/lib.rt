@@ -25,3 +25,6 @@ pub use reading::{FileRead, ReadFault, read_file};
 pub use sink::Sink;
 pub use std_sink::StdSink;
 pub use writing::write_all;
+
+#[cfg(test)]
+mod tests;
