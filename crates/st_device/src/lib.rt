@@ -6,5 +6,25 @@
 #![tactic(auto)]
 
 mod failed;
+mod folder_inputs;
+mod inputs;
+mod mem_inputs;
+mod mem_sink;
+mod reading;
+mod schedule;
+mod sink;
+mod std_sink;
+mod writing;
 
 pub use failed::Failed;
+pub use folder_inputs::FolderInputs;
+pub use inputs::Inputs;
+pub use mem_inputs::{InputFile, MemInputs};
+pub use mem_sink::MemSink;
+pub use reading::{FileRead, ReadFault, read_file};
+pub use sink::Sink;
+pub use std_sink::StdSink;
+pub use writing::write_all;
+
+#[cfg(test)]
+mod tests;
