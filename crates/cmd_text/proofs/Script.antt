@@ -1,0 +1,1 @@
+-- One more line of a script.
