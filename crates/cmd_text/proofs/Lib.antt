@@ -1,2 +1,3 @@
-pub mod Lines
-pub mod Script
+pub mod Cutting
+pub mod Behind
+pub mod Printing

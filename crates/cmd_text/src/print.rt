@@ -22,13 +22,15 @@ fn hex_digit(digit: u8) -> u8
 }
 
 // Puts the number's decimal digits at the end.
+#[tactic(auto, using(std::proofs::lemmas::Fmt::decimal_digit, std::proofs::lemmas::Fmt::decimal_step))]
 fn push_number(out: &mut Bytes, number: u64) -> Result<(), AllocError>
     ensures ok { OnOk result (out.new ≡ out.old ++ decimal number) }
     ensures err { OnErr result (Extends out.old out.new) }
 {
-    if number >= 10 {
-        push_number(out, number / 10)?;
+    if number < 10 {
+        return out.push(b'0' + number as u8);
     }
+    push_number(out, number / 10)?;
     out.push(b'0' + (number % 10) as u8)
 }
 
@@ -77,6 +79,7 @@ fn push_refusal(out: &mut Bytes, refusal: &Refusal) -> Result<(), AllocError>
 }
 
 // Puts the reply's words at the end, each behind a space.
+#[tactic(auto, using(crate::proofs::Printing::written, crate::proofs::Printing::found, crate::proofs::Printing::refused))]
 fn push_reply_words(out: &mut Bytes, reply: &Reply) -> Result<(), AllocError>
     ensures ok { OnOk result (out.new ≡ out.old ++ reply_text reply.now) }
     ensures err { OnErr result (Extends out.old out.new) }
@@ -100,6 +103,7 @@ fn push_reply_words(out: &mut Bytes, reply: &Reply) -> Result<(), AllocError>
 
 /// Puts the line of a place and its reply at the end, line feed included. An error leaves what was there, and
 /// maybe a part of the line behind it.
+#[tactic(auto, using(crate::proofs::Printing::line))]
 pub fn push_reply(out: &mut Bytes, place: u64, reply: &Reply) -> Result<(), AllocError>
     ensures ok { OnOk result (out.new ≡ out.old ++ line_of place reply.now) }
     ensures err { OnErr result (Extends out.old out.new) }

@@ -39,6 +39,7 @@ fn read_line(
     text: &[u8],
 ) -> Result<(), ScriptFault>
     ensures ok { OnOk result (with_line commands.old line text.now ≡ Ok commands.new) }
+    ensures within { length commands.old ≤ COMMANDS_PER_CLIENT → length commands.new ≤ COMMANDS_PER_CLIENT }
     ensures fault { (number : ℕ) → IsErrOf result (ScriptFault.Line number) → with_line commands.old line text.now ≡ Err number }
 {
     if !is_command_line(text) {
@@ -57,6 +58,7 @@ fn read_line(
 /// Reads a client file: its lines are parted by line feeds, its words by one space, and a line that is empty or
 /// begins with `#` is passed over. `Line` names the first line that should be a command and isn't one, or passes a
 /// limit of a key, a value or the 20,000 commands.
+#[tactic(auto, using(crate::proofs::Behind::whole_begin, crate::proofs::Behind::whole_line, crate::proofs::Behind::whole_fault))]
 pub fn read_script(alloc: Global, text: &[u8]) -> Result<Script, ScriptFault>
     requires { length text.now < 4294967295 }
     ensures ok { IfOk result (λ script. script_of text.now ≡ Ok script.commands) }

@@ -1,1 +1,0 @@
--- One more line of a script.
