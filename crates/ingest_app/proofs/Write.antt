@@ -118,8 +118,7 @@ stays state capacity call change stop place answered =
     let same_state : after state call ≡ state = ap (λ b. cond b (after_call state call) state) change in
     let one : ℕ = 1 in
     let nil : ℕ = 0 in
-    let grows : state.place ≡ state.place + cond (is_change call.reply) one nil = ap (λ n. n) (omega arith) ∙ sym (ap (λ b. state.place + cond b one nil) change) in
-    (
+    let grows : state.place ≡ state.place + cond (is_change call.reply) one nil = ap (λ n. n) (omega arith) ∙ sym (ap (λ b. state.place + cond b one nil) change) in (
       record {
         grows = ap (λ (s : ModelState). s.place) same_state ∙ grows;
         place = place ∙ sym (ap (λ (s : ModelState). s.place) same_state);

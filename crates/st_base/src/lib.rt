@@ -14,12 +14,12 @@ mod name;
 mod value;
 
 pub use entry::{Entries, Entry, KeyRange, Mark};
-pub use family::Family;
+pub use family::{Family, is_family};
 pub use fault::MakeFault;
 pub use key::Key;
 pub use limits::{
     CLIENT_FILE_BYTES, COMMANDS_PER_CLIENT, FAMILY_BYTES, KEY_BYTES, NAME_BYTES, VALUE_BYTES,
 };
 pub use list::{Bytes, List};
-pub use name::Name;
+pub use name::{Name, is_name};
 pub use value::Value;
