@@ -1,2 +1,3 @@
 pub mod Default
+pub mod Printed
 pub mod Write

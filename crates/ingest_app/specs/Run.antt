@@ -42,18 +42,25 @@ pub record IsFaulty (file : Option (List ℕ)) (name text : List ℕ) : Type 0 w
   pub read : client_script file ≡ Err line
   pub printed : text ≡ script_text name line
 
--- A run over these inputs may end with this status, if the sink takes this text. Where the inputs don't tell their
--- bytes, nothing is said of the file.
+-- The run of a client whose file this is may end with this status, if the sink takes this text.
+abbrev pub EndsClient : Option (List ℕ) → List ℕ → Status → List ℕ → Type 0
+EndsClient file name Done text = IsAnswered file name text
+EndsClient file name Script text = IsFaulty file name text
+EndsClient file name other text = ⊥
+
+-- The run of a client of this name may end with this status, if the sink takes this text. Where the inputs don't tell
+-- their bytes, nothing is said of the file.
+abbrev pub EndsNamed : List ℕ → InputsTold → InputsTold → Status → List ℕ → Type 0
+EndsNamed name before after Done text = IsTrue before.known → EndsClient (before.file name) name Done text
+EndsNamed name before after InputFault text = Rose before.faults after.faults × (text ≡ input_text name)
+EndsNamed name before after Script text = IsTrue before.known → EndsClient (before.file name) name Script text
+EndsNamed name before after other text = ⊥
+
+-- A run of these words may end with this status, if the sink takes this text.
 abbrev pub Ends : List (List ℕ) → InputsTold → InputsTold → Status → List ℕ → Type 0
-Ends words before after Done text =
-    IsSomeAnd (client_of words) (λ name. IsTrue before.known → IsAnswered (before.file name) name text)
 Ends words before after Memory text = text ≡ []
-Ends words before after InputFault text =
-    IsSomeAnd (client_of words) (λ name. Rose before.faults after.faults × (text ≡ input_text name))
-Ends words before after SinkFault text = ⊥
-Ends words before after Script text =
-    IsSomeAnd (client_of words) (λ name. IsTrue before.known → IsFaulty (before.file name) name text)
 Ends words before after NotYet text = (client_of words ≡ None) × (text ≡ not_yet_text)
+Ends words before after status text = IsSomeAnd (client_of words) (λ name. EndsNamed name before after status text)
 
 -- ---- what is written
 

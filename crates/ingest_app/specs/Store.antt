@@ -1,5 +1,5 @@
 -- The store in memory, and the states of the model that it stands for.
-use Rattle.std.specs.Prelude.{ℕ, ◌≡◌, ◌≤◌, List, [], ◌∷◌, Option}
+use Rattle.std.specs.Prelude.{ℕ, ◌≡◌, ◌≤◌, List, [], ◌∷◌, ◌++◌, Option}
 use Rattle.std.specs.List.{AllByRecursion as Each}
 use Rattle.std.specs.BTreeMap.{get}
 use Rattle.st_base.specs.Bytes.{bytes_cmp, default_family}
@@ -8,6 +8,7 @@ use Rattle.st_model.specs.declared.command.Command.{Command}
 use Rattle.st_model.specs.declared.state.ModelFamily.{ModelFamily}
 use Rattle.st_model.specs.declared.state.ModelState.{ModelState}
 use Rattle.st_model.specs.Asked.{asked_of}
+use Rattle.st_model.specs.Line.{line_of}
 use Rattle.st_model.specs.Legal.{IsStep, after}
 use Rattle.st_model.specs.Read.{read}
 use Rattle.ingest_app.specs.declared.store.Answer.{Answer}
@@ -35,3 +36,9 @@ call_of command answer = record { asked = asked_of command; place = answer.place
 pub record Steps (store : Store) (state : ModelState) (capacity : ℕ) (command : Command) (answer : Answer) : Type 0 where
   pub step : IsStep state capacity (call_of command answer)
   pub stands : Stands store (after state (call_of command answer))
+
+-- the store has answered the command, and the line of the answer stands behind the text
+pub record Prints (before after : Store) (capacity : ℕ) (command : Command) (text_before text_after : List ℕ) : Type 0 where
+  pub answer : Answer
+  pub steps : (state : ModelState) → Stands before state → Steps after state capacity command answer
+  pub printed : text_after ≡ text_before ++ line_of answer.place answer.reply

@@ -5,6 +5,7 @@
 
 mod client;
 mod outcome;
+mod run;
 mod status;
 mod store;
 
