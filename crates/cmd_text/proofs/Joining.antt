@@ -38,7 +38,6 @@ and-both false y e f = absurd (false≢true e)
 
 -- ---- a line is cut between its words
 
-
 cut-cons : (byte : ℕ) (bytes first : List ℕ) (others : List (List ℕ)) (b : Bool) → not b ≡ true → slice_split is_space bytes ≡ first ∷ others → cond b ([] ∷ slice_split is_space bytes) (onto_first byte (slice_split is_space bytes)) ≡ (byte ∷ first) ∷ others
 cut-cons byte bytes first others true other e = absurd (false≢true other)
 cut-cons byte bytes first others false other e = ap (onto_first byte) e
