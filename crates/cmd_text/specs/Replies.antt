@@ -1,12 +1,18 @@
 -- Which replies are printed.
-use Rattle.std.specs.Prelude.{ℕ, ◌<◌, ◌≤◌, ◌≡◌, ◌^◌, ◌++◌, IsTrue, ⊤, length, List, ◌∷◌, flat_map}
+use Rattle.std.specs.Prelude.{ℕ, ◌<◌, ◌≤◌, ◌≡◌, ◌^◌, ◌++◌, IsTrue, ⊤, length, List, ◌∷◌, flat_map, Result, Ok, Err}
 use Rattle.std.specs.List.{AllByRecursion as Each}
 use Rattle.st_base.specs.Names.{is_family}
+use Rattle.st_base.specs.declared.fault.MakeFault.{MakeFault}
+use Rattle.st_base.specs.declared.fault.MakeFault.TheVariants.{Limit}
+use Rattle.st_base.specs.declared.fault.MakeFault.TheVariants as make
 use Rattle.st_model.specs.Line.{refusal_words, reply_words}
 use Rattle.st_model.specs.declared.refusal.Refusal.{Refusal}
 use Rattle.st_model.specs.declared.refusal.Refusal.TheVariants.{Stopped, UnknownFamily, NumbersSpent, StoreFull, DiskFault, OutOfMemory}
 use Rattle.st_model.specs.declared.reply.Reply.{Reply}
 use Rattle.st_model.specs.declared.reply.Reply.TheVariants.{Written, Found, Nothing, Refused}
+use Rattle.cmd_text.specs.declared.fault.LineFault.{LineFault}
+use Rattle.cmd_text.specs.declared.fault.LineFault.TheVariants.{NotAReply}
+use Rattle.cmd_text.specs.declared.fault.LineFault.TheVariants as line
 
 -- each is a byte
 abbrev pub AreBytes : List ℕ → Type 0
@@ -24,6 +30,21 @@ IsPrinted (Written number) = number < 2 ^ 64
 IsPrinted (Found value) = AreBytes value × (length value ≤ 1048576)
 IsPrinted Nothing = ⊤
 IsPrinted (Refused refusal) = IsPrintedRefusal refusal
+
+-- ---- what a reader returned
+
+-- bytes past a limit are no part of a reply
+abbrev pub line_fault_of : MakeFault → LineFault
+line_fault_of Limit = NotAReply
+line_fault_of make.OutOfMemory = line.OutOfMemory
+
+-- it is this, unless memory is wanted
+abbrev pub GivesBack : {X : Type 0} → Result X LineFault → X → Type 0
+GivesBack (Ok found) wanted = found ≡ wanted
+GivesBack (Err NotAReply) wanted = ⊥
+GivesBack (Err line.OutOfMemory) wanted = ⊤
+
+-- ---- what is printed
 
 -- words, each behind a space
 abbrev pub spaced : List (List ℕ) → List ℕ

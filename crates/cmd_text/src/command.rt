@@ -1,4 +1,4 @@
-ghost use Rattle.std.specs.Prelude.{◌≡◌, codes, IfOk};
+ghost use Rattle.std.specs.Prelude.{◌≡◌, ◌↔◌, codes, IfOk, IsTrue};
 ghost use Rattle.std.specs.List.{list_all};
 ghost use Rattle.std.specs.Option.{option_copied};
 ghost use Rattle.st_base.specs.Bytes.{same};
@@ -101,8 +101,9 @@ fn single(alloc: Global, op: Op) -> Result<Command, AllocError>
 }
 
 // Whether the bytes are this word.
-fn is(bytes: &[u8], word: &[u8]) -> bool
-    ensures { result ≡ same bytes.now word.now }
+pub(crate) fn is(bytes: &[u8], word: &[u8]) -> bool
+    ensures value { result ≡ same bytes.now word.now }
+    ensures same { IsTrue result ↔ (bytes.now ≡ word.now) }
 {
     bytes == word
 }

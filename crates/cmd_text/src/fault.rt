@@ -1,5 +1,6 @@
 ghost use Rattle.std.specs.Prelude.{◌≡◌};
 ghost use Rattle.cmd_text.specs.Commands.{fault_of};
+ghost use Rattle.cmd_text.specs.Replies.{line_fault_of};
 ghost use Rattle.cmd_text.specs.declared.fault.CommandFault.TheVariants as command;
 ghost use Rattle.cmd_text.specs.declared.fault.ScriptFault.TheVariants as script;
 ghost use Rattle.cmd_text.specs.declared.fault.LineFault.TheVariants as line;
@@ -44,6 +45,17 @@ impl From<AllocError> for LineFault {
 
     fn from(_error: AllocError) -> LineFault {
         LineFault::OutOfMemory
+    }
+}
+
+impl From<MakeFault> for LineFault {
+    ghost from_gives = { λ fault result. result ≡ line_fault_of fault };
+
+    fn from(fault: MakeFault) -> LineFault {
+        match fault {
+            MakeFault::Limit => LineFault::NotAReply,
+            MakeFault::OutOfMemory => LineFault::OutOfMemory,
+        }
     }
 }
 

@@ -16,3 +16,6 @@ pub use fault::{LineFault, ScriptFault};
 pub use print::{print_reply, push_reply};
 pub use replies::read_reply;
 pub use script::{Numbered, Script, read_script};
+
+#[cfg(test)]
+mod tests;
