@@ -122,5 +122,9 @@ fn read_pieces<I: Inputs>(
 fn least(came: usize, left: u64) -> usize
     ensures { result ≡ min came left }
 {
-    if (came as u64) < left { came } else { left as usize }
+    if (came as u64) < left {
+        came
+    } else {
+        left as usize
+    }
 }

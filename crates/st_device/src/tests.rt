@@ -85,8 +85,14 @@ fn files_in_memory(rt: HostRuntime) -> Result<(), Fail> {
     let mut inputs = one_file(alloc, Bytes::from_slice(alloc, b"abc")?, &[])?;
     let whole = FileRead::Whole(Bytes::from_slice(alloc, b"abc")?);
     assert_eq!(rt; read_file(alloc, &mut inputs, "one", 3), Ok(whole));
-    assert_eq!(rt; read_file(alloc, &mut inputs, "one", 2), Ok(FileRead::TooLong));
-    assert_eq!(rt; read_file(alloc, &mut inputs, "two", 3), Ok(FileRead::Missing));
+    assert_eq!(rt;
+        read_file(alloc, &mut inputs, "one", 2),
+        Ok(FileRead::TooLong)
+    );
+    assert_eq!(rt;
+        read_file(alloc, &mut inputs, "two", 3),
+        Ok(FileRead::Missing)
+    );
     assert_eq!(rt; inputs.read("two", 0, &mut [0; 2]), Ok(0));
     Ok(())
 }
@@ -96,8 +102,14 @@ fn fails_in_mid_stream(rt: HostRuntime) -> Result<(), Fail> {
     let alloc = rt.alloc();
     let mut inputs = one_file(alloc, long_bytes(alloc)?, &[1, 4])?;
     let whole = FileRead::Whole(long_bytes(alloc)?);
-    assert_eq!(rt; read_file(alloc, &mut inputs, "one", 70_000), Err(ReadFault::Failed));
-    assert_eq!(rt; read_file(alloc, &mut inputs, "one", 70_000), Err(ReadFault::Failed));
+    assert_eq!(rt;
+        read_file(alloc, &mut inputs, "one", 70_000),
+        Err(ReadFault::Failed)
+    );
+    assert_eq!(rt;
+        read_file(alloc, &mut inputs, "one", 70_000),
+        Err(ReadFault::Failed)
+    );
     assert_eq!(rt; read_file(alloc, &mut inputs, "one", 70_000), Ok(whole));
     Ok(())
 }
@@ -145,7 +157,10 @@ fn real_ones(rt: HostRuntime) -> Result<(), Fail> {
     let mut inputs = FolderInputs::new(&rt);
     fs::write(&rt, "sample-of-st_device", b"abc")?;
     let abc = FileRead::Whole(Bytes::from_slice(alloc, b"abc")?);
-    assert_eq!(rt; read_file(alloc, &mut inputs, "sample-of-st_device", 3), Ok(abc));
+    assert_eq!(rt;
+        read_file(alloc, &mut inputs, "sample-of-st_device", 3),
+        Ok(abc)
+    );
     assert_eq!(rt; inputs.read("sample-of-st_device", 2, &mut [0; 9]), Ok(1));
     fs::remove_file(&rt, "sample-of-st_device")?;
     assert_eq!(rt; inputs.size("sample-of-st_device"), Ok(None));
