@@ -1,5 +1,5 @@
 -- Input files in memory.
-use Rattle.std.specs.Prelude.{ℕ, Bool, true, List, Option, option_map, find}
+use Rattle.std.specs.Prelude.{ℕ, true, List, Option, option_map, find}
 use Rattle.st_base.specs.Bytes.{same}
 use Rattle.st_device.specs.Inputs.{InputsTold}
 use Rattle.st_device.specs.declared.mem_inputs.InputFile.{InputFile}

@@ -1,8 +1,6 @@
 -- What input files in memory tell, and which of their calls fail.
-use Rattle.std.specs.Prelude.{Bool}
 use Rattle.st_device.specs.Inputs.{InputsTold}
 use Rattle.st_device.specs.MemInputs.{told_of}
-use Rattle.st_device.specs.Schedule as schedule
 use Rattle.st_device.specs.declared.schedule.Schedule.{Schedule}
 use Rattle.st_device.specs.declared.mem_inputs.MemInputs.{MemInputs}
 

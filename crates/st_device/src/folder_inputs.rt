@@ -8,9 +8,11 @@ use std::io::{ErrorKind, Read, Seek, SeekFrom};
 use std::rt::Files;
 use std::{fs, io};
 
-/// The files of the working folder. Their bytes aren't known to contracts.
+/// The files of the working folder. Their bytes aren't known to contracts, so no clause says that a read gives them.
 ///
-/// The file that was read last stays open, so that reading a file in pieces is linear.
+/// A name of which the system says that nothing is there, or that it isn't a plain file, has no size. Each other error
+/// of the system raises the count of faults. The file that was read last stays open, so that reading a file in pieces
+/// is linear.
 #[derive(Drop)]
 pub struct FolderInputs<R: Files> {
     rt: R,

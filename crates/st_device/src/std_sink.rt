@@ -9,6 +9,9 @@ use std::io::ErrorKind;
 const TRIES: usize = 64;
 
 /// Standard output. What it takes is out when the call answers. What was written isn't known to contracts.
+///
+/// An error of the system raises the count of faults, and so does a write that takes nothing. A write that a signal cuts
+/// short is tried again.
 #[derive(Drop)]
 pub struct StdSink<R: Print> {
     rt: R,

@@ -1,4 +1,4 @@
-use Rattle.std.proofs.Common.{◌∙◌, ◌≡◌, ◌+◌, ◌-◌, ◌≤◌, ap, arith, IsTrue, length, take, subst, List, ℕ}
+use Rattle.std.proofs.Common.{◌∙◌, ◌≡◌, ◌+◌, ◌-◌, ◌≤◌, ap, arith, IsTrue, length, ℕ}
 use Rattle.std.proofs.lemmas.List.{length-append, length-take}
 use Rattle.st_device.specs.Inputs.{bytes_of, ReadsAt}
 use Rattle.st_device.proofs.Pieces.{reads_more, stay_trans}

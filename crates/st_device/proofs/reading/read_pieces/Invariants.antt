@@ -1,4 +1,4 @@
-use Rattle.std.proofs.Common.{◌≡◌, ◌≤◌, ◌<◌, ◌+◌, ◌-◌, length, take, IsTrue}
+use Rattle.std.proofs.Common.{◌≡◌, ◌+◌, ◌-◌, length, take, IsTrue}
 use Rattle.st_device.specs.Inputs.{Stay, bytes_of}
 use Rattle.st_device.proofs.reading.read_pieces.Given as goal
 
