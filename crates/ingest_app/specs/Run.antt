@@ -1,5 +1,5 @@
 -- How a run ends, and what it has written then.
-use Rattle.std.specs.Prelude.{ℕ, ◌≡◌, ◌⊎◌, ◌&&◌, IsTrue, List, [], ◌∷◌, ◌++◌, map, codes, if◌then◌else◌, String, string_bytes}
+use Rattle.std.specs.Prelude.{ℕ, ◌≡◌, ◌⊎◌, ◌&&◌, IsTrue, ⊤, List, [], ◌∷◌, ◌++◌, map, codes, if◌then◌else◌, String, string_bytes}
 use Rattle.std.specs.Prelude.{Option, Some, None, Result, Ok, Err, IsSomeAnd}
 use Rattle.std.specs.Fmt.{decimal}
 use Rattle.st_base.specs.Bytes.{same}
@@ -48,6 +48,12 @@ EndsClient file name Done text = IsAnswered file name text
 EndsClient file name Script text = IsFaulty file name text
 EndsClient file name other text = ⊥
 
+-- the statuses that a client's file can lead to
+abbrev pub IsOfFile : Status → Type 0
+IsOfFile Done = ⊤
+IsOfFile Script = ⊤
+IsOfFile other = ⊥
+
 -- The run of a client of this name may end with this status, if the sink takes this text. Where the inputs don't tell
 -- their bytes, nothing is said of the file.
 abbrev pub EndsNamed : List ℕ → InputsTold → InputsTold → Status → List ℕ → Type 0
@@ -79,3 +85,13 @@ Ended words before after sink_before sink_after SinkFault =
     × ((status : Status) × (text : List ℕ) × Ends words before after status text × WritesPrefix sink_before sink_after text)
 Ended words before after sink_before sink_after status =
     (text : List ℕ) × Ends words before after status text × Writes sink_before sink_after text
+
+-- ---- what a client's file is
+
+-- the words name a client whose file has commands
+abbrev pub HasScript : List (List ℕ) → InputsTold → Type 0
+HasScript words inputs = IsSomeAnd (client_of words) (λ name. (commands : List Numbered) × (client_script (inputs.file name) ≡ Ok commands))
+
+-- the words name a client whose file isn't there, is too long, or has a faulty line
+abbrev pub HasFault : List (List ℕ) → InputsTold → Type 0
+HasFault words inputs = IsSomeAnd (client_of words) (λ name. (line : ℕ) × (client_script (inputs.file name) ≡ Err line))

@@ -20,11 +20,7 @@ fn heading(alloc: Global, name: &str) -> Result<Bytes, AllocError>
 }
 
 // Answers one command, and prints the answer behind the text.
-fn answer_command(
-    store: &mut Store,
-    command: Command,
-    text: &mut Bytes,
-) -> Result<(), AllocError>
+fn answer_command(store: &mut Store, command: Command, text: &mut Bytes) -> Result<(), AllocError>
     ensures { OnOk result (Prints store.old store.new CAPACITY command text.old text.new) }
 {
     let answer = store.answer(command)?;

@@ -3,7 +3,7 @@ ghost use Rattle.std.specs.Prelude.{◌≡◌, ◌≤◌, ℕ, List, Option, Som
 ghost use Rattle.std.specs.Option.{option_copied};
 ghost use Rattle.st_base.specs.Names.{is_name};
 ghost use Rattle.st_device.specs.Inputs.{Stay};
-ghost use Rattle.ingest_app.specs.Run.{client_of, Ends, EndsNamed, EndsClient, input_text, script_text, not_yet_text};
+ghost use Rattle.ingest_app.specs.Run.{client_of, Ends, EndsNamed, EndsClient, IsOfFile, input_text, script_text, not_yet_text};
 ghost use Rattle.st_device.specs.FileRead.{file_read, IsWithin};
 
 use crate::client::answer_script;
@@ -63,7 +63,8 @@ fn script_text(alloc: Global, name: &str, line: u32) -> Result<Bytes, AllocError
 // The outcome of a client file of these bytes.
 fn run_text(alloc: Global, name: &str, text: &[u8]) -> Result<Outcome, AllocError>
     requires { length text.now ≤ CLIENT_FILE_BYTES }
-    ensures { IfOk result (λ outcome. EndsClient (Some text.now) name.now outcome.status outcome.text) }
+    ensures status { IfOk result (λ outcome. IsOfFile outcome.status) }
+    ensures ends { IfOk result (λ outcome. EndsClient (Some text.now) name.now outcome.status outcome.text) }
 {
     match read_script(alloc, text) {
         Ok(script) => Ok(Outcome {
@@ -81,7 +82,8 @@ fn run_text(alloc: Global, name: &str, text: &[u8]) -> Result<Outcome, AllocErro
 // The outcome of a client file.
 fn run_file(alloc: Global, name: &str, read: FileRead) -> Result<Outcome, AllocError>
     requires { IsWithin CLIENT_FILE_BYTES read }
-    ensures { IfOk result (λ outcome. (file : Option (List ℕ)) → read ≡ file_read CLIENT_FILE_BYTES file → EndsClient file name.now outcome.status outcome.text) }
+    ensures status { IfOk result (λ outcome. IsOfFile outcome.status) }
+    ensures ends { IfOk result (λ outcome. (file : Option (List ℕ)) → read ≡ file_read CLIENT_FILE_BYTES file → EndsClient file name.now outcome.status outcome.text) }
 {
     match read {
         FileRead::Missing => Ok(Outcome {
@@ -97,11 +99,7 @@ fn run_file(alloc: Global, name: &str, read: FileRead) -> Result<Outcome, AllocE
 }
 
 // The outcome of a client of this name.
-fn run_client<I: Inputs>(
-    alloc: Global,
-    name: &str,
-    inputs: &mut I,
-) -> Result<Outcome, AllocError>
+fn run_client<I: Inputs>(alloc: Global, name: &str, inputs: &mut I) -> Result<Outcome, AllocError>
     requires { IsTrue (is_name name.now) }
     ensures ends { IfOk result (λ outcome. EndsNamed name.now (I.tells inputs.old) (I.tells inputs.new) outcome.status outcome.text) }
     ensures stay { Stay (I.tells inputs.old) (I.tells inputs.new) }
