@@ -9,6 +9,7 @@ mod crc;
 mod fault;
 mod fixed;
 mod laws;
+mod tables;
 mod varint;
 
 pub use crc::{Crc, crc32c, mask};
