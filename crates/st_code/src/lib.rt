@@ -10,6 +10,8 @@ mod fault;
 mod fixed;
 mod laws;
 mod tables;
+#[cfg(test)]
+mod tests;
 mod varint;
 
 pub use crc::{Crc, crc32c, mask};
