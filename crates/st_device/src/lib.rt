@@ -5,6 +5,12 @@
 //! generic over these traits can't raise a count, so a layer above can't give up without a fault.
 #![tactic(auto)]
 
+mod disk;
 mod failed;
+mod files;
+mod mem_disk;
+mod step;
 
+pub use disk::{Disk, FilesFault};
 pub use failed::Failed;
+pub use mem_disk::MemDisk;
