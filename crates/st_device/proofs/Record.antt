@@ -123,7 +123,7 @@ honest_told first steps top faults = (honest_after (start first) steps (λ file.
 abbrev Mixes : State → Type 0
 Mixes m = (f : ℕ) (c d : Image) → m.now c → m.now d → m.now (put f (c f) d)
 
-put_at : (f : ℕ) (this : Option (List ℕ)) (d : Image) (other : ℕ) (P : Option (List ℕ) → Type 0) → (other ≡ f → P this) → (other ≢ f → P (d other)) → P (put f this d other)
+pub put_at : (f : ℕ) (this : Option (List ℕ)) (d : Image) (other : ℕ) (P : Option (List ℕ) → Type 0) → (other ≡ f → P this) → (other ≢ f → P (d other)) → P (put f this d other)
 put_at f this d other P here there = elim (cases_eq other f) [
   | inl same ↦ subst P (sym (ap (λ (n : ℕ). put f this d n) same ∙ put_same f this d)) (here same)
   | inr differs ↦ subst P (sym (put_other f this d other differs)) (there differs)

@@ -1,14 +1,26 @@
 -- When a disk in memory fails.
-use Rattle.std.specs.Prelude.{◌≡◌, ◌⊎◌, ◌<◌, ◌+◌, ℕ, Bool, false, Contains, length, List}
+use Rattle.std.specs.Prelude.{◌≡◌, ◌⊎◌, ◌<◌, ◌+◌, ℕ, Bool, true, false, Contains, Result, Ok, Err}
 use Rattle.st_device.specs.Count.{Rose, greatest_count}
-use Rattle.st_device.specs.Disk.{Image, Told}
+use Rattle.st_device.specs.Disk.{Image, Told, IsNumbered}
 use Rattle.st_device.specs.Files.{image_of}
-use Rattle.st_device.specs.Memory.{told_of, reads_of, next_count}
+use Rattle.st_device.specs.Memory.{told_of, next_count}
+use Rattle.std.proofs.Common.{sym, ◌∙◌}
+use Rattle.st_device.specs.declared.disk.FilesFault.{FilesFault}
+use Rattle.st_device.specs.declared.disk.FilesFault.TheVariants.{Failed, OutOfMemory}
 use Rattle.st_device.specs.declared.mem_disk.MemDisk.{MemDisk}
 
 -- what is known of it
 abbrev pub told : MemDisk → Told
 told disk = told_of (image_of disk.first) disk.steps.items disk.top disk.faults
+
+pub numbered : (disk : MemDisk) → IsNumbered (told disk)
+numbered disk = record { least = disk.least; faults_end = disk.counts; last_absent = (λ i. sym disk.kept i greatest_count) ∙ disk.last }
+
+-- whether the answer is that the disk has failed
+abbrev pub has_failed : {T : Type 0} → Result T FilesFault → Bool
+has_failed (Ok x) = false
+has_failed (Err Failed) = true
+has_failed (Err OutOfMemory) = false
 
 -- the next call is one of those that are to fail
 abbrev pub IsListed : MemDisk → Type 0
