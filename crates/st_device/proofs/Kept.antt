@@ -1,12 +1,14 @@
 -- The files of a disk in memory stay those of its record.
-use Rattle.std.proofs.Common.{◌≡◌, ◌≢◌, ◌⊎◌, ℕ, ◌<◌, ◌≤◌, max, Vec, Global, List, [], ◌∷◌, ◌++◌, length, Option, Some, None, refl, sym, ◌∙◌, ap, subst, arith, get_or}
+use Rattle.std.proofs.Common.{◌≡◌, ◌≢◌, ◌⊎◌, inl, inr, ℕ, ◌<◌, ◌≤◌, max, Vec, Global, List, [], ◌∷◌, ◌++◌, length, Option, Some, None, take, length-append, refl, sym, ◌∙◌, ap, subst, arith, get_or}
 use Rattle.std.specs.Prelude.{Contains, IsSome, ◌↔◌, fold, Result, Ok, Err, OnOk, OnErr}
 use Rattle.st_device.specs.Count.{greatest_count}
-use Rattle.st_device.specs.Disk.{Image, greatest, There}
+use Rattle.st_device.specs.Disk.{Image, greatest}
 use Rattle.st_device.specs.Files.{put}
 use Rattle.st_device.specs.Memory.{file_of, becomes, changed, reads_of}
 use Rattle.st_device.specs.declared.step.Step.{Step}
 use Rattle.st_device.specs.declared.step.Step.TheVariants.{Create, Write, Tear, Sync, Remove}
+use Rattle.std.proofs.lemmas.List.{take_all, take-append-le}
+use Rattle.std.proofs.lemmas.Bool.{cases_lt}
 use Rattle.st_device.proofs.Held.{put_itself}
 use Rattle.st_device.proofs.Record.{reads_push, put_at}
 
@@ -22,11 +24,30 @@ pub kept_torn : {E : Type 0} (r : Result (Unit {0}) E) (first old : Image) (file
 kept_torn (Ok x) first old file at bytes before after ok err kept = kept_still (Tear file at ok.0) first old before after refl ok.2 kept
 kept_torn (Err e) first old file at bytes before after ok err kept = kept ∙ ap (λ (l : List Step). reads_of first l) (sym err)
 
--- the last number stays no file's
-pub last_changed : (s : Step) (old new : Image) → new ≡ changed s old → old greatest_count ≡ None → (file_of s ≡ greatest_count → becomes s None ≡ None) → new greatest_count ≡ None
-last_changed s old new is absent none =
-    (λ i. is i greatest_count)
+-- at no moment the last number is a file's
+abbrev pub Lasts : Image → List Step → Type 0
+Lasts first steps = (k : ℕ) → reads_of first (take k steps) greatest_count ≡ None
+
+pub lasts_now : (first : Image) (steps : List Step) → Lasts first steps → reads_of first steps greatest_count ≡ None
+lasts_now first steps lasts = subst (λ (l : List Step). reads_of first l greatest_count ≡ None) (take_all (length steps) steps (omega arith)) (lasts (length steps))
+
+last_pushed : (s : Step) (first : Image) (steps : List Step) → reads_of first steps greatest_count ≡ None → (file_of s ≡ greatest_count → becomes s None ≡ None) → reads_of first (steps ++ s ∷ []) greatest_count ≡ None
+last_pushed s first steps absent none =
+    let old = reads_of first steps in
+    (λ i. reads_push first steps s i greatest_count)
     ∙ put_at (file_of s) (becomes s (old (file_of s))) old greatest_count (λ o. o ≡ None) (λ same. ap (λ o. becomes s o) (ap (λ (n : ℕ). old n) (sym same) ∙ absent) ∙ none (sym same)) (λ apart. absent)
+
+pub lasts_push : (s : Step) (first : Image) (before after : List Step) → after ≡ before ++ s ∷ [] → (file_of s ≡ greatest_count → becomes s None ≡ None) → Lasts first before → Lasts first after
+lasts_push s first before after more none lasts k =
+    let P : List Step → Type 0 = λ (l : List Step). reads_of first l greatest_count ≡ None in
+    elim (cases_lt (length before) k) [
+      | inl past ↦ subst P (sym (ap (λ (l : List Step). take k l) more ∙ take_all k (before ++ s ∷ []) (omega (arith, length-append before (s ∷ []))))) (last_pushed s first before (lasts_now first before lasts) none)
+      | inr within ↦ subst P (sym (ap (λ (l : List Step). take k l) more ∙ take-append-le k before (s ∷ []) within)) (lasts k)
+    ]
+
+pub lasts_torn : {E : Type 0} (r : Result (Unit {0}) E) (first : Image) (file at : ℕ) (bytes : List ℕ) (before after : List Step) → OnOk r ((copy : Vec ℕ Global) × (copy.items ≡ bytes) × (after ≡ before ++ Tear file at copy ∷ [])) → OnErr r (after ≡ before) → Lasts first before → Lasts first after
+lasts_torn (Ok x) first file at bytes before after ok err lasts = lasts_push (Tear file at ok.0) first before after ok.2 (λ same. refl) lasts
+lasts_torn (Err e) first file at bytes before after ok err lasts = subst (λ (l : List Step). Lasts first l) (sym err) lasts
 
 pub le_greatest : (least : ℕ) (names : List ℕ) → least ≤ greatest least names
 le_greatest least [] = omega arith
@@ -43,3 +64,13 @@ named_below names image there absent k d inside fits =
     is_none : (o : Option (List ℕ)) → IsSome o → o ≡ None → ⊥
     is_none None some none = cc some
     is_none (Some x) some none = cc none
+
+-- the files without a record
+pub last_put : (file : ℕ) (this : Option (List ℕ)) (old new : Image) → (file ≡ greatest_count → ⊥) → new ≡ put file this old → old greatest_count ≡ None → new greatest_count ≡ None
+last_put file this old new apart is none = (λ i. is i greatest_count) ∙ put_at file this old greatest_count (λ o. o ≡ None) (λ same. absurd (apart (sym same))) (λ differs. none)
+
+pub last_removed : (file : ℕ) (old new : Image) → new ≡ put file None old → old greatest_count ≡ None → new greatest_count ≡ None
+last_removed file old new is none = (λ i. is i greatest_count) ∙ put_at file None old greatest_count (λ o. o ≡ None) (λ same. refl) (λ differs. none)
+
+pub some_apart : (file : ℕ) (old : Image) (bytes : List ℕ) → old file ≡ Some bytes → old greatest_count ≡ None → file ≡ greatest_count → ⊥
+some_apart file old bytes there none same = let e : Some bytes ≡ None = sym there ∙ ap (λ (n : ℕ). old n) same ∙ none in cc e

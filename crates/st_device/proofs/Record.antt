@@ -42,10 +42,10 @@ torn_over at n bytes old le fits =
 torn_whole : (at : ℕ) (bytes old : List ℕ) → at ≤ length old → Torn at (length bytes) old (over at bytes old)
 torn_whole at bytes old le = torn_over at (length bytes) bytes old le (inl (omega arith))
 
-written_is : (at : ℕ) (bytes old : List ℕ) → at ≤ length old → written at bytes (Some old) ≡ Some (over at bytes old)
+pub written_is : (at : ℕ) (bytes old : List ℕ) → at ≤ length old → written at bytes (Some old) ≡ Some (over at bytes old)
 written_is at bytes old le = grind (arith, nat_tests)
 
-written_past : (at : ℕ) (bytes old : List ℕ) → length old < at → written at bytes (Some old) ≡ Some old
+pub written_past : (at : ℕ) (bytes old : List ℕ) → length old < at → written at bytes (Some old) ≡ Some old
 written_past at bytes old gt = grind (arith, nat_tests)
 
 pub torn_written : (at : ℕ) (bytes : List ℕ) (o : Option (List ℕ)) → Both (Torn at (length bytes)) o (written at bytes o)
@@ -75,7 +75,7 @@ read_stays (Sync file) read = refl
 read_stays (Remove file) read = refl
 
 -- one file is changed, and the others stay
-changes_put : (file : ℕ) (this : Option (List ℕ)) (files : Image) (how : Option (List ℕ) → Option (List ℕ) → Type 0) → how (files file) this → Changes file how files (put file this files)
+pub changes_put : (file : ℕ) (this : Option (List ℕ)) (files : Image) (how : Option (List ℕ) → Option (List ℕ) → Type 0) → how (files file) this → Changes file how files (put file this files)
 changes_put file this files how is = record { others = put_other file this files; this = subst (how (files file)) (sym (put_same file this files)) is }
 
 keeps : (m : State) (s : Step) → m.now m.reads → (step m s).now (step m s).reads

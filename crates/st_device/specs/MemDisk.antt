@@ -1,12 +1,15 @@
 -- When a disk in memory fails.
-use Rattle.std.specs.Prelude.{◌≡◌, ◌⊎◌, ◌<◌, ◌+◌, ℕ, Bool, true, false, Contains, Result, Ok, Err}
+use Rattle.std.specs.Prelude.{◌≡◌, ◌⊎◌, ◌<◌, ◌+◌, ℕ, Bool, true, false, Contains, Result, Ok, Err, List, length, None}
 use Rattle.st_device.specs.Count.{Rose, greatest_count}
 use Rattle.st_device.specs.Disk.{Image, Told, IsNumbered}
 use Rattle.st_device.specs.Files.{image_of}
-use Rattle.st_device.specs.Memory.{told_of, next_count}
-use Rattle.std.proofs.Common.{sym, ◌∙◌}
+use Rattle.st_device.specs.Memory.{told_of, reads_of, next_count}
+use Rattle.std.proofs.Common.{subst}
+use Rattle.std.proofs.Math.Nat.{le_refl}
+use Rattle.std.proofs.lemmas.List.{take_all}
 use Rattle.st_device.specs.declared.disk.FilesFault.{FilesFault}
 use Rattle.st_device.specs.declared.disk.FilesFault.TheVariants.{Failed, OutOfMemory}
+use Rattle.st_device.specs.declared.step.Step.{Step}
 use Rattle.st_device.specs.declared.mem_disk.MemDisk.{MemDisk}
 
 -- what is known of it
@@ -14,7 +17,7 @@ abbrev pub told : MemDisk → Told
 told disk = told_of (image_of disk.first) disk.steps.items disk.top disk.faults
 
 pub numbered : (disk : MemDisk) → IsNumbered (told disk)
-numbered disk = record { least = disk.least; faults_end = disk.counts; last_absent = (λ i. sym disk.kept i greatest_count) ∙ disk.last }
+numbered disk = record { least = disk.least; faults_end = disk.counts; last_absent = subst (λ (l : List Step). reads_of (image_of disk.first) l greatest_count ≡ None) (take_all (length disk.steps.items) disk.steps.items (le_refl (length disk.steps.items))) (disk.last (length disk.steps.items)) }
 
 -- whether the answer is that the disk has failed
 abbrev pub has_failed : {T : Type 0} → Result T FilesFault → Bool

@@ -5,12 +5,21 @@
 //! generic over these traits can't raise a count, so a layer above can't give up without a fault.
 #![tactic(auto)]
 
+mod counts;
+mod crash;
 mod disk;
 mod failed;
 mod files;
+mod folder_disk;
+mod laws;
 mod mem_disk;
 mod step;
+mod unrecorded_disk;
 
+pub use crash::Fate;
 pub use disk::{Disk, FilesFault};
 pub use failed::Failed;
+pub use folder_disk::FolderDisk;
+pub use laws::{write_durably, write_unsynced};
 pub use mem_disk::MemDisk;
+pub use unrecorded_disk::UnrecordedDisk;

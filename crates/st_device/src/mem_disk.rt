@@ -1,16 +1,18 @@
 // A disk in memory.
-ghost use Rattle.std.specs.Prelude.{◌≡◌, ◌+◌, ◌<◌, ◌≤◌, ◌↔◌, ℕ, length, max, option_map, not, Contains, All, IfOk, IsErr, IsErrOf, IsSome, IsTrue, OnErr, OnOk, None, is_ok};
+ghost use Rattle.std.specs.Prelude.{◌≡◌, ◌+◌, ◌<◌, ◌≤◌, ◌↔◌, ℕ, List, Option, length, max, option_map, not, take, Contains, All, IfOk, IsErr, IsErrOf, IsSome, IsTrue, OnErr, OnOk, None, is_ok};
 ghost use Rattle.st_device.specs.Count.{Rose, greatest_count};
-ghost use Rattle.st_device.specs.Disk.{IsHonest, Passes, Untouched, Created, Wrote, Synced, Removed, There, Reads, IsRising, greatest};
-ghost use Rattle.st_device.specs.Files.{image_of};
+ghost use Rattle.st_device.specs.Disk.{Image, IsDurable, IsHonest, Both, Torn, Passes, Untouched, Created, Wrote, Synced, Removed, There, Reads, IsRising, greatest};
+ghost use Rattle.st_device.specs.Files.{image_of, put};
 ghost use Rattle.st_device.specs.Memory.{reads_of, next_count};
 
+use crate::counts::{copy_out, greatest_of, raised};
+use crate::crash::{Fate, image_after};
 use crate::files::Files;
 use crate::step::{Step, do_create, do_remove, do_sync, do_tear, do_write};
-use st_base::List;
+use st_base::List as Names;
 use crate::{Disk, Failed, FilesFault};
 
-use std::alloc::Global;
+use std::alloc::{AllocError, Global};
 
 /// A disk in memory. It keeps the files as they read, and a record of all changes, by which it tells the images of a
 /// crash at every moment.
@@ -33,14 +35,7 @@ pub struct MemDisk {
     ghost least: { 3 ≤ top },
     ghost counts: { faults ≤ greatest_count },
     ghost kept: { image_of files ≡ reads_of (image_of first) steps.items },
-    ghost last: { image_of files greatest_count ≡ None },
-}
-
-// The next count.
-fn raised(count: u64) -> u64
-    ensures { result ≡ next_count count }
-{
-    count.saturating_add(1)
+    ghost last: { (k : ℕ) → reads_of (image_of first) (take k steps.items) greatest_count ≡ None },
 }
 
 // Counts a call, and says whether it is to fail.
@@ -50,27 +45,6 @@ fn is_listed(calls: &mut u64, failing: &[u64]) -> bool
 {
     *calls = raised(*calls);
     failing.contains(calls)
-}
-
-// The greatest of these numbers and of `least`.
-fn greatest_of(least: u64, names: &[u64]) -> u64
-    ensures value { result ≡ greatest least names.now }
-    ensures fit { All (λ n. n ≤ greatest_count) names.now }
-{
-    names.iter().fold(least, |most, name| most.max(*name))
-}
-
-// Copies bytes from a place on, as many as are there and fit.
-fn copy_out(buffer: &mut [u8], bytes: &[u8], at: u64) -> usize
-    ensures { Reads at result buffer.old buffer.new bytes.now }
-{
-    if at >= bytes.len() as u64 {
-        return 0;
-    }
-    let from = &bytes[at as usize..];
-    let n = from.len().min(buffer.len());
-    buffer[..n].copy_from_slice(&from[..n]);
-    n
 }
 
 impl MemDisk {
@@ -93,6 +67,76 @@ impl MemDisk {
             top: 3,
         }
     }
+
+    /// The disk as a crash leaves it at a moment, which is a count of changes, with the fates that are chosen: the i-th
+    /// is that of the i-th change that was made, counted from 0, and counts only for a write. A write without a fate is
+    /// whole. The new disk fails at the calls in `failing`.
+    pub fn after_crash(
+        &self,
+        alloc: Global,
+        moment: usize,
+        fates: &[Fate],
+        failing: Vec<u64>,
+    ) -> Result<MemDisk, AllocError>
+        requires { moment ≤ (told self.now).moment }
+        ensures left { IfOk result (λ disk. (told self.now).since moment (told disk).reads) }
+        ensures durable { IfOk result (λ disk. (file : ℕ) → IsDurable file (told disk)) }
+        ensures failing { IfOk result (λ disk. disk.failing.items ≡ failing.items) }
+    {
+        let files = image_after(alloc, &self.first, &self.steps[..moment], fates)?;
+        let first = files.copy()?;
+        Ok(MemDisk {
+            alloc,
+            first,
+            files,
+            steps: Vec::new(alloc),
+            failing,
+            calls: 0,
+            faults: 0,
+            starved: 0,
+            top: 3,
+        })
+    }
+
+    /// From now on the disk fails at these of its calls, counted from its first one.
+    pub fn fail_at(&mut self, failing: Vec<u64>)
+        ensures untouched { Untouched (told self.old) (told self.new) }
+        ensures passes { Passes (told self.old) (told self.new) }
+        ensures top { (told self.new).top ≡ (told self.old).top }
+        ensures faults { (told self.new).faults ≡ (told self.old).faults }
+        ensures failing { self.new.failing.items ≡ failing.items }
+        ensures calls { self.new.calls ≡ self.old.calls }
+    {
+        self.failing = failing;
+    }
+
+    /// How many changes have been made.
+    pub fn moment(&self) -> usize
+        ensures { result ≡ (told self.now).moment }
+    {
+        self.steps.len()
+    }
+
+    /// How many calls there were.
+    pub fn calls(&self) -> u64
+        ensures { result ≡ self.now.calls }
+    {
+        self.calls
+    }
+
+    /// How many of them failed.
+    pub fn faults(&self) -> u64
+        ensures { result ≡ (told self.now).faults }
+    {
+        self.faults
+    }
+
+    /// How many of them failed since memory refused a growth.
+    pub fn starved(&self) -> u64
+        ensures { result ≡ self.now.starved }
+    {
+        self.starved
+    }
 }
 
 impl Disk for MemDisk {
@@ -105,7 +149,7 @@ impl Disk for MemDisk {
 
     ghost numbered = { numbered };
 
-    fn files(&mut self, alloc: Global) -> Result<List<u64>, FilesFault>
+    fn files(&mut self, alloc: Global) -> Result<Names<u64>, FilesFault>
         ensures told { IsHonest (told self.old) → IfOk result (λ names. (n : ℕ) → Contains names n ↔ IsSome ((told self.old).reads n)) }
         ensures rising { IfOk result (λ names. IsRising names) }
         ensures below { IfOk result (λ names. All (λ n. n < greatest_count) names) }
@@ -201,6 +245,9 @@ impl Disk for MemDisk {
         ensures top { (told self.new).top ≡ (told self.old).top }
         ensures cause { IsErr result → Rose (told self.old).faults (told self.new).faults }
         ensures listed { Answers self.old self.new (is_ok result) (greatest_count < at + length bytes.now) }
+
+        // Whatever a cut off write may leave of an image, a crash may leave.
+        ensures images { OnOk result ((c : Image) (this : Option (List ℕ)) → (told self.old).now c → Both (Torn at (length bytes.now)) (c file) this → (told self.new).now (put file this c)) }
     {
         let listed = is_listed(&mut self.calls, &self.failing);
         if listed || bytes.len() as u64 > u64::MAX - at {

@@ -1,4 +1,5 @@
-use Rattle.std.proofs.Common.{◌≡◌, sym, ap, ◌∙◌, List, ℕ, Option, None, arith}
+use Rattle.std.proofs.Common.{◌≡◌, sym, ap, ◌∙◌, List, ℕ, Option, None, arith, subst, take, []}
+use Rattle.std.proofs.lemmas.List.{take_all}
 use Rattle.st_device.specs.Count.{greatest_count}
 use Rattle.st_device.specs.Disk.{Image}
 use Rattle.st_device.specs.Files.{image_of}
@@ -14,7 +15,7 @@ invariant_of-result c =
       least = omega arith;
       counts = omega arith;
       kept = same ∙ sym (reads_start (image_of c.new.result)) ∙ ap (λ (l : List Step). reads_of (image_of c.new.result) l) (sym c.new-3.ensures.items);
-      last = c.new-2.ensures greatest_count;
+      last = subst (λ (l : List Step). (k : ℕ) → reads_of (image_of c.new.result) (take k l) greatest_count ≡ None) (sym c.new-3.ensures.items) (λ k. ap (λ (l : List Step). reads_of (image_of c.new.result) l greatest_count) (take_all k [] (omega arith)) ∙ (λ i. reads_start (image_of c.new.result) i greatest_count) ∙ c.new.ensures greatest_count);
     }
 
 pub returns-clause-empty : goal.returns-clause-empty

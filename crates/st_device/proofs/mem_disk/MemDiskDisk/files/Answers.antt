@@ -3,7 +3,7 @@ use Rattle.std.specs.Prelude.{All, Contains, IsSome, ◌↔◌}
 use Rattle.st_device.specs.Count.{greatest_count}
 use Rattle.st_device.specs.Disk.{Image, greatest}
 use Rattle.st_device.specs.Files.{image_of}
-use Rattle.st_device.proofs.Kept.{le_greatest, named_below}
+use Rattle.st_device.proofs.Kept.{le_greatest, named_below, lasts_now}
 use Rattle.st_device.proofs.Record.{passes_same}
 use Rattle.st_device.proofs.mem_disk.MemDiskDisk.files.Goals as goal
 
@@ -16,7 +16,7 @@ pub returns-in-Ok-clause-told : goal.returns-in-Ok-clause-told
 returns-in-Ok-clause-told c = λ honest n. subst (λ (image : Image). Contains c.in-Ok.names n ↔ IsSome (image n)) c.args.self.now.kept (c.in-Ok.ensures.names n)
 
 pub returns-in-Ok-clause-below : goal.returns-in-Ok-clause-below
-returns-in-Ok-clause-below c = λ k d inside. named_below c.in-Ok.names (image_of c.args.self.now.files) c.in-Ok.ensures.names c.args.self.now.last k d inside (subst (λ (l : List ℕ). All (λ n. n ≤ greatest_count) l) c.as_slice.ensures c.greatest_of-self.ensures.fit k d inside)
+returns-in-Ok-clause-below c = λ k d inside. named_below c.in-Ok.names (image_of c.args.self.now.files) c.in-Ok.ensures.names ((λ i. c.args.self.now.kept i greatest_count) ∙ lasts_now (image_of c.args.self.now.first) c.args.self.now.steps.items c.args.self.now.last) k d inside (subst (λ (l : List ℕ). All (λ n. n ≤ greatest_count) l) c.as_slice.ensures c.greatest_of-self.ensures.fit k d inside)
 
 pub returns-in-Ok-clause-passes : goal.returns-in-Ok-clause-passes
 returns-in-Ok-clause-passes c =

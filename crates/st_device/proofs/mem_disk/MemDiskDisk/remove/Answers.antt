@@ -4,7 +4,7 @@ use Rattle.st_device.specs.Files.{image_of}
 use Rattle.st_device.specs.Memory.{told_of}
 use Rattle.st_device.specs.declared.step.Step.{Step}
 use Rattle.st_device.specs.declared.step.Step.TheVariants.{Remove}
-use Rattle.st_device.proofs.Kept.{kept_push, kept_still, last_changed}
+use Rattle.st_device.proofs.Kept.{kept_push, kept_still, lasts_push}
 use Rattle.st_device.proofs.Record.{passes_push, removed_push}
 use Rattle.st_device.proofs.mem_disk.MemDiskDisk.remove.Goals as goal
 
@@ -15,7 +15,7 @@ invariant_of-self-in-Ok c =
       least = omega (arith, m.least);
       counts = m.counts;
       kept = kept_push (Remove c.args.file) (image_of m.first) (image_of m.files) (image_of c.do_remove.new.files) m.steps.items c.do_remove.new.steps.items c.in-Ok.ensures.ok.files c.in-Ok.ensures.ok.recorded m.kept;
-      last = last_changed (Remove c.args.file) (image_of m.files) (image_of c.do_remove.new.files) c.in-Ok.ensures.ok.files m.last (λ same. refl);
+      last = lasts_push (Remove c.args.file) (image_of m.first) m.steps.items c.do_remove.new.steps.items c.in-Ok.ensures.ok.recorded (λ same. refl) m.last;
     }
 
 pub returns-in-Ok-clause-told : goal.returns-in-Ok-clause-told

@@ -4,7 +4,7 @@ use Rattle.st_device.specs.Files.{image_of}
 use Rattle.st_device.specs.Memory.{told_of}
 use Rattle.st_device.specs.declared.step.Step.{Step}
 use Rattle.st_device.specs.declared.step.Step.TheVariants.{Sync}
-use Rattle.st_device.proofs.Kept.{kept_push, kept_still, last_changed}
+use Rattle.st_device.proofs.Kept.{kept_push, kept_still, lasts_push}
 use Rattle.st_device.proofs.Record.{passes_push, synced_push}
 use Rattle.st_device.proofs.mem_disk.MemDiskDisk.sync.Goals as goal
 
@@ -15,7 +15,7 @@ invariant_of-self-in-Ok c =
       least = omega (arith, m.least);
       counts = m.counts;
       kept = kept_still (Sync c.args.file) (image_of m.first) (image_of m.files) m.steps.items c.do_sync.new.steps.items refl c.in-Ok.ensures.ok m.kept;
-      last = m.last;
+      last = lasts_push (Sync c.args.file) (image_of m.first) m.steps.items c.do_sync.new.steps.items c.in-Ok.ensures.ok (λ same. refl) m.last;
     }
 
 pub returns-in-Ok-clause-told : goal.returns-in-Ok-clause-told
