@@ -29,9 +29,10 @@ module _ {a b c : Told} (file : ℕ) (bytes : List ℕ) (made : Created file a b
     alone honest empty image now =
         let before = synced.crash image (p3.ends image now) in
         let wrote_from = wrote.crash image (p2.ends image before) in
-        let made_from = made.crash wrote_from.0 (p1.ends wrote_from.0 wrote_from.1) in
-        (synced.durable image now ∙ reads_wrote,
-        λ other differs. wrote_from.2.others other differs ∙ made_from.2.others other differs ∙ honest.1 made_from.0 other made_from.1 (empty other))
+        let made_from = made.crash wrote_from.0 (p1.ends wrote_from.0 wrote_from.1) in (
+          synced.durable image now ∙ reads_wrote,
+          λ other differs. wrote_from.2.others other differs ∙ made_from.2.others other differs ∙ honest.1 made_from.0 other made_from.1 (empty other),
+        )
 
 -- an image of which a crash may leave every torn write
 module _ {a b : Told} (c : Told) (file : ℕ) (bytes : List ℕ) (made : Created file a b true) (honest : IsHonest b) (images : (image : Image) (this : Option (List ℕ)) → b.now image → Both (Torn 0 (length bytes)) (image file) this → c.now (put file this image)) where

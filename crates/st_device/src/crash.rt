@@ -97,12 +97,7 @@ fn write_whole(files: &mut Files, file: u64, at: u64, bytes: &[u8]) -> Result<()
 }
 
 // Makes the file hold in the image what it reads.
-fn settle(
-    alloc: Global,
-    reads: &Files,
-    image: &mut Files,
-    file: u64,
-) -> Result<(), AllocError>
+fn settle(alloc: Global, reads: &Files, image: &mut Files, file: u64) -> Result<(), AllocError>
     ensures { OnOk result (image_of image.new ≡ put file (image_of reads.now file) (image_of image.old)) }
 {
     match reads.get(file) {

@@ -14,6 +14,8 @@ mod folder_disk;
 mod laws;
 mod mem_disk;
 mod step;
+#[cfg(test)]
+mod tests;
 mod unrecorded_disk;
 
 pub use crash::Fate;

@@ -9,9 +9,8 @@ use crate::counts::{copy_out, greatest_of, raised};
 use crate::crash::{Fate, image_after};
 use crate::files::Files;
 use crate::step::{Step, do_create, do_remove, do_sync, do_tear, do_write};
-use st_base::List as Names;
 use crate::{Disk, Failed, FilesFault};
-
+use st_base::List as Names;
 use std::alloc::{AllocError, Global};
 
 /// A disk in memory. It keeps the files as they read, and a record of all changes, by which it tells the images of a
