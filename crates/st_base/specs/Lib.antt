@@ -1,2 +1,5 @@
 pub mod Bytes
+pub mod Faults
 pub mod Names
+pub mod Order
+pub mod Rows
