@@ -1,8 +1,8 @@
 -- What the end of a run says, status by status.
 use Rattle.std.proofs.Common.{◌≡◌, ◌⊎◌, ℕ, List, [], Option, Some, None, Ok, Err, IsTrue, IsSomeAnd, refl, inl, inr, ◌∙◌, ap, ◌++◌}
-use Rattle.st_device.specs.Count.{Rose}
-use Rattle.st_device.specs.Inputs.{InputsTold}
-use Rattle.st_device.specs.Sink.{SinkTold}
+use Rattle.st_base.specs.Count.{Rose}
+use Rattle.st_stream.specs.Inputs.{InputsTold}
+use Rattle.st_stream.specs.Sink.{SinkTold}
 use Rattle.cmd_text.specs.declared.script.Numbered.{Numbered}
 use Rattle.ingest_app.specs.Client.{client_script}
 use Rattle.ingest_app.specs.Run.{client_of, Ended, Ends, EndsNamed, EndsClient, IsOfFile, IsAnswered, IsFaulty, Writes, HasScript, HasFault}

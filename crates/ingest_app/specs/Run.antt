@@ -4,9 +4,9 @@ use Rattle.std.specs.Prelude.{Option, Some, None, Result, Ok, Err, IsSomeAnd}
 use Rattle.std.specs.Fmt.{decimal}
 use Rattle.st_base.specs.Bytes.{same}
 use Rattle.st_base.specs.Names.{is_name}
-use Rattle.st_device.specs.Count.{Rose}
-use Rattle.st_device.specs.Inputs.{InputsTold}
-use Rattle.st_device.specs.Sink.{SinkTold, AppendsPrefix}
+use Rattle.st_base.specs.Count.{Rose}
+use Rattle.st_stream.specs.Inputs.{InputsTold}
+use Rattle.st_stream.specs.Sink.{SinkTold, AppendsPrefix}
 use Rattle.cmd_text.specs.declared.script.Numbered.{Numbered}
 use Rattle.ingest_app.specs.Client.{client_script, Answers}
 use Rattle.ingest_app.specs.declared.status.Status.{Status}

@@ -13,7 +13,7 @@ mod store;
 mod tests;
 
 pub use run::run;
-use st_device::{FolderInputs, StdSink};
+use st_stream::{FolderInputs, StdSink};
 pub use status::Status;
 use std::env::{self, Env};
 use std::io;

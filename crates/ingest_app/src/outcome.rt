@@ -2,15 +2,15 @@
 ghost use Rattle.std.specs.Prelude.{◌≡◌, ◌≤◌, ℕ, List, Option, Some, length, IfOk, IfSome, IsTrue, map, String, string_bytes};
 ghost use Rattle.std.specs.Option.{option_copied};
 ghost use Rattle.st_base.specs.Names.{is_name};
-ghost use Rattle.st_device.specs.Inputs.{Stay};
+ghost use Rattle.st_stream.specs.Inputs.{Stay};
 ghost use Rattle.ingest_app.specs.Run.{client_of, Ends, EndsNamed, EndsClient, IsOfFile, input_text, script_text, not_yet_text};
-ghost use Rattle.st_device.specs.FileRead.{file_read, IsWithin};
+ghost use Rattle.st_stream.specs.FileRead.{file_read, IsWithin};
 
 use crate::client::answer_script;
 use crate::status::Status;
 use cmd_text::{ScriptFault, read_script};
 use st_base::{Bytes, CLIENT_FILE_BYTES, is_name};
-use st_device::{FileRead, Inputs, ReadFault, read_file};
+use st_stream::{FileRead, Inputs, ReadFault, read_file};
 use std::alloc::{AllocError, Global};
 
 /// A status with the text that goes with it.

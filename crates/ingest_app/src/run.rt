@@ -1,13 +1,13 @@
 //! The top call.
 ghost use Rattle.std.specs.Prelude.{◌≡◌, ◌⊎◌, [], List, ℕ, None, Ok, Err, IsTrue, IsOk, IsSomeAnd, map, String, string_bytes};
-ghost use Rattle.st_device.specs.Count.{Rose};
-ghost use Rattle.st_device.specs.Inputs.{Stay};
+ghost use Rattle.st_base.specs.Count.{Rose};
+ghost use Rattle.st_stream.specs.Inputs.{Stay};
 ghost use Rattle.ingest_app.specs.Client.{client_script};
 ghost use Rattle.ingest_app.specs.Run.{client_of, Ended, Writes, HasScript, HasFault};
 
 use crate::outcome::outcome_of;
 use crate::status::Status;
-use st_device::{Failed, Inputs, Sink, write_all};
+use st_stream::{Failed, Inputs, Sink, write_all};
 use std::alloc::Global;
 
 // Runs the words, and writes the text of the outcome and nothing else.

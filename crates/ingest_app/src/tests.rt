@@ -1,6 +1,6 @@
 use crate::{Status, run};
 use st_base::{Bytes, List, Name};
-use st_device::{InputFile, MemInputs, MemSink};
+use st_stream::{InputFile, MemInputs, MemSink};
 use std::alloc::Global;
 use std::process::Abort;
 use std::test::Fail;

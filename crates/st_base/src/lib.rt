@@ -6,6 +6,7 @@
 
 mod entry;
 mod entry_ref;
+mod failed;
 mod family;
 mod fault;
 #[cfg(test)]
@@ -22,6 +23,7 @@ mod value;
 
 pub use entry::{Entries, Entry, KeyRange, Mark};
 pub use entry_ref::{EntryRef, MarkRef};
+pub use failed::Failed;
 pub use family::{Family, is_family};
 pub use fault::MakeFault;
 pub use faults::{BlockFault, TableFault};

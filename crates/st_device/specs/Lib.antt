@@ -1,8 +1,6 @@
-pub mod Count
-pub mod FileRead
-pub mod Inputs
-pub mod MemInputs
-pub mod MemInputsState
-pub mod MemSink
-pub mod Schedule
-pub mod Sink
+pub mod Disk
+pub mod Files
+pub mod Laws
+pub mod MemDisk
+pub mod Memory
+pub mod Silent

@@ -1,171 +1,101 @@
-// Each form in memory and each real one is called once, and the helpers over forms that give and take one byte at a
-// time, and that fail in mid-stream.
-ghost use Rattle.std.specs.Prelude.{◌≡◌, ◌≤◌, ◌<◌, [], None, false, refl};
-ghost use Rattle.std.proofs.Common.{rules};
-ghost use Rattle.st_device.specs.Count.{greatest_count};
-ghost use Rattle.st_device.specs.Inputs.{InputsTold};
-ghost use Rattle.st_device.specs.Sink.{SinkTold};
-
 use super::*;
-use st_base::{Bytes, List, Name};
+use st_base::List;
 use std::alloc::Global;
 use std::fs;
 use std::test::Fail;
 
-// A file that gives one byte at a time, and whose size may be stated wrongly.
-#[derive(Drop)]
-struct Dribble {
-    bytes: [u8; 3],
-    size: u64,
-}
-
-impl Inputs for Dribble {
-    ghost tells = { λ _. record { known = false; file = λ _. None; faults = greatest_count } };
-
-    ghost counted = { λ _. Prim.search rules };
-
-    fn size(&mut self, _name: &str) -> Result<Option<u64>, Failed> {
-        Ok(Some(self.size))
-    }
-
-    fn read(&mut self, _name: &str, at: u64, buffer: &mut [u8]) -> Result<usize, Failed> {
-        if buffer.is_empty() || at >= 3 {
-            return Ok(0);
-        }
-        buffer[0] = self.bytes[at as usize];
-        Ok(1)
-    }
-}
-
-// A sink that takes one byte at a time, and fails where it is full.
-#[derive(Drop)]
-struct Trickle {
-    bytes: [u8; 4],
-    length: usize,
-}
-
-impl Sink for Trickle {
-    ghost tells = { λ _. record { known = false; written = []; faults = greatest_count } };
-
-    ghost counted = { λ _. Prim.search rules };
-
-    fn write(&mut self, bytes: &[u8]) -> Result<usize, Failed> {
-        match bytes {
-            [] => Ok(0),
-            [first, ..] if self.length < 4 => {
-                self.bytes[self.length] = *first;
-                self.length += 1;
-                Ok(1)
-            }
-            _ => Err(Failed),
-        }
-    }
-}
-
-// One file in memory, `one`.
-fn one_file(alloc: Global, bytes: Bytes, failing: &[u64]) -> Result<MemInputs, Fail> {
-    let mut files = List::new(alloc);
-    files.push(InputFile {
-        name: Name::new(alloc, b"one")?,
-        bytes,
-    })?;
-    Ok(MemInputs::new(files, List::from_slice(alloc, failing)?))
-}
-
-// A file of 70,000 bytes, which are read in two pieces.
-fn long_bytes(alloc: Global) -> Result<Bytes, Fail> {
-    let mut bytes = vec![in alloc; b'a'; 65_536]?;
-    bytes.extend_from_slice(vec![in alloc; b'b'; 4_464]?.as_slice())?;
-    Ok(Bytes::from(bytes))
-}
-
-#[test]
-fn files_in_memory(rt: HostRuntime) -> Result<(), Fail> {
-    let alloc = rt.alloc();
-    let mut inputs = one_file(alloc, Bytes::from_slice(alloc, b"abc")?, &[])?;
-    let whole = FileRead::Whole(Bytes::from_slice(alloc, b"abc")?);
-    assert_eq!(rt; read_file(alloc, &mut inputs, "one", 3), Ok(whole));
-    assert_eq!(rt;
-        read_file(alloc, &mut inputs, "one", 2),
-        Ok(FileRead::TooLong)
-    );
-    assert_eq!(rt;
-        read_file(alloc, &mut inputs, "two", 3),
-        Ok(FileRead::Missing)
-    );
-    assert_eq!(rt; inputs.read("two", 0, &mut [0; 2]), Ok(0));
-    Ok(())
-}
-
-#[test]
-fn fails_in_mid_stream(rt: HostRuntime) -> Result<(), Fail> {
-    let alloc = rt.alloc();
-    let mut inputs = one_file(alloc, long_bytes(alloc)?, &[1, 4])?;
-    let whole = FileRead::Whole(long_bytes(alloc)?);
-    assert_eq!(rt;
-        read_file(alloc, &mut inputs, "one", 70_000),
-        Err(ReadFault::Failed)
-    );
-    assert_eq!(rt;
-        read_file(alloc, &mut inputs, "one", 70_000),
-        Err(ReadFault::Failed)
-    );
-    assert_eq!(rt; read_file(alloc, &mut inputs, "one", 70_000), Ok(whole));
-    Ok(())
-}
-
-#[test]
-fn one_byte_at_a_time(rt: HostRuntime) -> Result<(), Fail> {
-    let alloc = rt.alloc();
-    let abc = FileRead::Whole(Bytes::from_slice(alloc, b"abc")?);
-    let ab = FileRead::Whole(Bytes::from_slice(alloc, b"ab")?);
-    let mut stated_long = Dribble {
-        bytes: *b"abc",
-        size: 9,
+// What the file reads.
+fn bytes_of<D: Disk>(alloc: Global, disk: &mut D, file: u64) -> Result<Vec<u8>, Fail> {
+    let mut bytes = vec![in alloc; 9u8; 16]?;
+    let count = match disk.length(file)? {
+        None => 0,
+        Some(_) => disk.read(file, 0, &mut bytes)?,
     };
-    assert_eq!(rt; read_file(alloc, &mut stated_long, "one", 9), Ok(abc));
-    let mut stated_short = Dribble {
-        bytes: *b"abc",
-        size: 2,
-    };
-    assert_eq!(rt; read_file(alloc, &mut stated_short, "one", 9), Ok(ab));
-    let mut sink = Trickle {
-        bytes: [0; 4],
-        length: 0,
-    };
-    assert_eq!(rt; write_all(&mut sink, b"abc"), Ok(()));
-    assert_eq!(rt; write_all(&mut sink, b"de"), Err(Failed));
-    assert_eq!(rt; sink.bytes, *b"abcd");
-    Ok(())
+    bytes.truncate(count);
+    Ok(bytes)
+}
+
+// A file of `abcd`, durable, and two writes that are not: `XY12` at 2, and `z` at 0.
+fn written(alloc: Global) -> Result<MemDisk, Fail> {
+    let mut disk = MemDisk::new(alloc, Vec::new(alloc));
+    write_durably(&mut disk, 2, b"abcd")?;
+    disk.write(2, 2, b"XY12")?;
+    disk.write(2, 0, b"z")?;
+    Ok(disk)
 }
 
 #[test]
-fn sink_in_memory(rt: HostRuntime) -> Result<(), Fail> {
+fn a_crash_leaves_parts_of_writes(rt: HostRuntime) -> Result<(), Fail> {
     let alloc = rt.alloc();
-    let mut sink = MemSink::new(alloc, List::from_slice(alloc, &[2])?);
-    assert_eq!(rt; write_all(&mut sink, b"abc"), Ok(()));
-    assert_eq!(rt; write_all(&mut sink, b"de"), Err(Failed));
-    assert_eq!(rt; write_all(&mut sink, b"fg"), Ok(()));
-    assert_eq!(rt; sink.bytes(), b"abcfg".as_slice());
-    assert_eq!(rt; sink.starved(), 0);
-    Ok(())
-}
-
-#[test]
-fn real_ones(rt: HostRuntime) -> Result<(), Fail> {
-    let alloc = rt.alloc();
-    let mut inputs = FolderInputs::new(&rt);
-    fs::write(&rt, "sample-of-st_device", b"abc")?;
-    let abc = FileRead::Whole(Bytes::from_slice(alloc, b"abc")?);
+    let disk = written(alloc)?;
+    let moment = disk.moment();
+    assert_eq!(rt; moment, 5);
+    let whole = Fate::Whole;
+    for (first, second, left) in [
+        (Fate::Lost, Fate::Lost, b"abcd".as_slice()),
+        (Fate::Whole, Fate::Whole, b"zbXY12".as_slice()),
+        (Fate::Lost, Fate::Whole, b"zbcd".as_slice()),
+        (Fate::Cut(1), Fate::Lost, b"abXd".as_slice()),
+        (
+            Fate::Filled(7),
+            Fate::Whole,
+            b"zb\x07\x07\x07\x07".as_slice(),
+        ),
+        (Fate::Longer(2), Fate::Longer(5), b"zbXY12\0\0".as_slice()),
+    ] {
+        let fates = [whole, whole, whole, first, second];
+        let mut after = disk.after_crash(alloc, moment, &fates, Vec::new(alloc))?;
+        assert_eq!(rt; bytes_of(alloc, &mut after, 2)?.as_slice(), left);
+    }
+    let mut earlier = disk.after_crash(alloc, 1, &[], Vec::new(alloc))?;
     assert_eq!(rt;
-        read_file(alloc, &mut inputs, "sample-of-st_device", 3),
-        Ok(abc)
+        bytes_of(alloc, &mut earlier, 2)?.as_slice(),
+        b"".as_slice()
     );
-    assert_eq!(rt; inputs.read("sample-of-st_device", 2, &mut [0; 9]), Ok(1));
-    fs::remove_file(&rt, "sample-of-st_device")?;
-    assert_eq!(rt; inputs.size("sample-of-st_device"), Ok(None));
-    assert_eq!(rt; inputs.read("none-of-st_device", 0, &mut [0; 9]), Ok(0));
-    let mut sink = StdSink::new(&rt);
-    assert_eq!(rt; write_all(&mut sink, b""), Ok(()));
+    Ok(())
+}
+
+#[test]
+fn a_listed_call_fails(rt: HostRuntime) -> Result<(), Fail> {
+    let alloc = rt.alloc();
+    let mut disk = MemDisk::new(alloc, vec![in alloc; 2u64]?);
+    assert_eq!(rt; write_durably(&mut disk, 2, b"abcd"), Err(Failed));
+    assert_eq!(rt; disk.calls(), 2);
+    assert_eq!(rt; disk.faults(), 1);
+    assert_eq!(rt; disk.starved(), 0);
+    disk.fail_at(Vec::new(alloc));
+    assert_eq!(rt; disk.files(alloc).is_ok(), true);
+    assert_eq!(rt; bytes_of(alloc, &mut disk, 2)?.as_slice(), b"".as_slice());
+    Ok(())
+}
+
+// Makes file 4, names the files, and removes it again.
+fn come_and_go<D: Disk>(alloc: Global, disk: &mut D) -> Result<(List<u64>, Vec<u8>), Fail> {
+    write_durably(disk, 4, b"pq")?;
+    let bytes = bytes_of(alloc, disk, 4)?;
+    let names = disk.files(alloc)?;
+    disk.remove(4)?;
+    Ok((names, bytes))
+}
+
+#[test]
+fn each_disk_keeps_a_file(rt: HostRuntime) -> Result<(), Fail> {
+    let alloc = rt.alloc();
+    let mut folder = FolderDisk::new(rt.clone()?);
+    assert_eq!(rt; folder.files(alloc)?.len(), 0);
+    let (names, bytes) = come_and_go(alloc, &mut folder)?;
+    assert_eq!(rt; names.as_slice(), [4].as_slice());
+    assert_eq!(rt; bytes.as_slice(), b"pq".as_slice());
+    fs::write(&rt, "db/f3", "no file of the disk")?;
+    assert_eq!(rt; folder.files(alloc)?.len(), 0);
+    assert_eq!(rt; folder.faults(), 0);
+    let mut unrecorded = UnrecordedDisk::new(alloc);
+    let (names, bytes) = come_and_go(alloc, &mut unrecorded)?;
+    assert_eq!(rt; names.as_slice(), [4].as_slice());
+    assert_eq!(rt; bytes.as_slice(), b"pq".as_slice());
+    let mut memory = MemDisk::new(alloc, Vec::new(alloc));
+    let (names, bytes) = come_and_go(alloc, &mut memory)?;
+    assert_eq!(rt; names.as_slice(), [4].as_slice());
+    assert_eq!(rt; bytes.as_slice(), b"pq".as_slice());
     Ok(())
 }
