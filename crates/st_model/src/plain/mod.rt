@@ -1,0 +1,7 @@
+//! The plain, slow functions: each computes one of the definitions, as its contract says.
+//!
+//! They are what the definitions mean when they are run, and tests compare faster bodies with them.
+
+mod reads;
+
+pub use reads::read;
