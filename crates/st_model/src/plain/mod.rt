@@ -2,6 +2,8 @@
 //!
 //! They are what the definitions mean when they are run, and tests compare faster bodies with them.
 
+mod applies;
 mod reads;
 
+pub use applies::apply;
 pub use reads::read;
