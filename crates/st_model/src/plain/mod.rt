@@ -3,7 +3,11 @@
 //! They are what the definitions mean when they are run, and tests compare faster bodies with them.
 
 mod applies;
+mod histories;
 mod reads;
+mod replies;
 
 pub use applies::apply;
+pub use histories::history;
 pub use reads::read;
+pub use replies::reply;
