@@ -4,6 +4,7 @@
 
 mod applies;
 mod histories;
+mod parts;
 mod reads;
 mod replies;
 
