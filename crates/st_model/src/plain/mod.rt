@@ -4,11 +4,13 @@
 
 mod applies;
 mod histories;
+mod legals;
 mod parts;
 mod reads;
 mod replies;
 
 pub use applies::apply;
 pub use histories::history;
+pub use legals::legal;
 pub use reads::read;
 pub use replies::reply;

@@ -1,15 +1,14 @@
-ghost use Rattle.std.specs.Prelude.{◌≡◌, ℕ, ◌+◌, ◌<◌, ◌≤◌, ◌↔◌, IfOk, IsTrue, IsFalse, MatchBool, map, All};
-ghost use Rattle.st_model.specs.History.{is_change, all_calls};
-ghost use Rattle.st_model.specs.Legal.{AreNext, IsInOrder, is_stop, is_stored};
+ghost use Rattle.std.specs.Prelude.{◌≡◌, ℕ, ◌+◌, ◌<◌, ◌≤◌, ◌↔◌, IsTrue, IsFalse, MatchBool, map, length, All};
+ghost use Rattle.st_model.specs.History.{is_change};
+ghost use Rattle.st_model.specs.Legal.{AreNext, IsInOrder, is_stop, is_stored, HaveCauses};
 
 use crate::command::{Call, Calls};
 use crate::plain::histories::is_change;
 use crate::refusal::Refusal;
 use crate::reply::Reply;
-use std::alloc::{AllocError, Global};
 
 // Whether the calls have the places from 1 on, in order.
-pub(super) fn are_next(calls: &[Call]) -> bool
+fn are_next(calls: &[Call]) -> bool
     ensures { IsTrue result ↔ AreNext 0 (map (λ call. call.place) calls.now) }
 {
     for (index, call) in calls.iter().enumerate() {
@@ -46,14 +45,14 @@ fn is_in_order(calls: &[Call]) -> bool
 }
 
 // Whether each transcript is in order.
-pub(super) fn are_in_order(transcripts: &[Calls]) -> bool
+fn are_in_order(transcripts: &[Calls]) -> bool
     ensures { IsTrue result ↔ All (IsInOrder 0) transcripts.now }
 {
     transcripts.iter().all(|calls| is_in_order(calls.as_slice()))
 }
 
 // Whether no place is greater than that one.
-pub(super) fn are_within(calls: &[Call], most: u64) -> bool
+fn are_within(calls: &[Call], most: u64) -> bool
     ensures { IsTrue result ↔ All (λ call. call.place ≤ most) calls.now }
 {
     calls.iter().all(|call| call.place <= most)
@@ -92,4 +91,32 @@ fn is_stopped(calls: &[Call]) -> bool
     calls
         .iter()
         .all(|stop| !is_stop(&stop.reply) || are_stored_within(calls, stop.place))
+}
+
+// Whether the refusals that come from a fault of the disk have one, and no change is stored behind them.
+fn have_causes(calls: &[Call], disk_failed: bool) -> bool
+    ensures { (input_faults : ℕ) → IsTrue result ↔ HaveCauses calls.now input_faults disk_failed }
+{
+    (disk_failed || are_no_stops(calls)) && is_stopped(calls)
+}
+
+// Whether places and causes are as they are in legal transcripts.
+pub(super) fn is_placed(
+    transcripts: &[Calls],
+    calls: &[Call],
+    accepted: &[Call],
+    disk_failed: bool,
+) -> bool
+    ensures { (input_faults : ℕ) → IsTrue result ↔ AreNext 0 (map (λ call. call.place) accepted.now) × All (IsInOrder 0) transcripts.now × All (λ call. call.place ≤ length accepted.now) calls.now × HaveCauses calls.now input_faults disk_failed }
+{
+    if !are_next(accepted) {
+        return false;
+    }
+    if !are_in_order(transcripts) {
+        return false;
+    }
+    if !are_within(calls, accepted.len() as u64) {
+        return false;
+    }
+    have_causes(calls, disk_failed)
 }
