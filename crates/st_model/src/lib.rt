@@ -7,6 +7,7 @@
 
 mod change;
 mod command;
+pub mod plain;
 mod refusal;
 mod reply;
 mod state;
