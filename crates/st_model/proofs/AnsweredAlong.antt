@@ -90,9 +90,9 @@ pub state_refutes : (opening state : ModelState) (capacity : ℕ) (calls accepte
     → state ≡ fold after_call opening (take i accepted) → All (Answered opening capacity accepted) calls → All (AnsweredAt state capacity i) calls
 state_refutes opening state capacity calls accepted i s all =
     All-weaker (Answered opening capacity accepted) (AnsweredAt state capacity i) (λ call answered at.
-        let P : ℕ → Type 0 = λ n. IsReply (fold after_call opening (take n accepted)) capacity call.asked call.reply in
-        let Q : ModelState → Type 0 = λ m. IsReply m capacity call.asked call.reply in
-        subst Q (sym s) (subst P at answered)) calls all
+    let P : ℕ → Type 0 = λ n. IsReply (fold after_call opening (take n accepted)) capacity call.asked call.reply in
+    let Q : ModelState → Type 0 = λ m. IsReply m capacity call.asked call.reply in
+    subst Q (sym s) (subst P at answered)) calls all
 
 spoken_le : (b : Bool) (place : ℕ) → cond b (place - 1) place ≤ place
 spoken_le true place = omega arith
@@ -106,12 +106,11 @@ pub all_answered : (opening state : ModelState) (capacity : ℕ) (calls accepted
     → (IsTrue holds ↔ All (AnsweredAt state capacity (length accepted)) calls)
     → IsTrue holds ↔ All (Answered opening capacity accepted) calls
 all_answered opening state capacity calls accepted i holds s l m within before at =
-    let same : i ≡ length accepted = omega arith in
-    (
+    let same : i ≡ length accepted = omega arith in (
       λ h k d le.
           let call = get_or calls k d in
           elim (spoken_cases call (within k d le)) [
-            inl less ↦ before k d le less
+            | inl less ↦ before k d le less
             | inr last ↦
                 let Q : ModelState → Type 0 = λ m. IsReply m capacity call.asked call.reply in
                 let P : ℕ → Type 0 = λ n. IsReply (fold after_call opening (take n accepted)) capacity call.asked call.reply in
@@ -122,7 +121,7 @@ all_answered opening state capacity calls accepted i holds s l m within before a
   where
     spoken_cases : (call : Call) → call.place ≤ length accepted → (place_spoken_of call < i) ⊎ (place_spoken_of call ≡ length accepted)
     spoken_cases call le = elim (cases_lt (place_spoken_of call) i) [
-      inl less ↦ inl less
+      | inl less ↦ inl less
       | inr more ↦ inr (omega (arith, more, spoken_le (is_change call.reply) call.place))
     ]
 
@@ -159,7 +158,7 @@ placed_from_legal opening capacity transcripts input_faults disk_failed h = (
   h.once,
   All-from_recursion (IsInOrder 0) transcripts h.in_order,
   (let N : ℕ → Type 0 = λ n. All (λ (call : Call). call.place ≤ n) (all_calls transcripts) in
-    subst N (sym (length-accepted_calls transcripts)) (All-from_recursion (λ (call : Call). call.place ≤ changes_in transcripts) (all_calls transcripts) h.within)),
+      subst N (sym (length-accepted_calls transcripts)) (All-from_recursion (λ (call : Call). call.place ≤ changes_in transcripts) (all_calls transcripts) h.within)),
   h.causes,
 )
 

@@ -47,8 +47,8 @@ write_answer-unknown state capacity ops name e = first_unknown _ _ _ _ (unknown_
 write_answer-known : (state : ModelState) (capacity : ℕ) (ops : List Op) → None ≡ slice_get (unknown_names state ops) 0
     → write_answer state capacity ops
     ≡ cond (nat_lt greatest_number (state.last + length ops)) (Refused NumbersSpent)
-        (cond (nat_le greatest_number state.place) (Refused NumbersSpent)
-            (cond (nat_lt capacity (add_charge state.charge (write_charge ops))) (Refused StoreFull) (Written (state.last + length ops))))
+    (cond (nat_le greatest_number state.place) (Refused NumbersSpent)
+    (cond (nat_lt capacity (add_charge state.charge (write_charge ops))) (Refused StoreFull) (Written (state.last + length ops))))
 write_answer-known state capacity ops e = first_known _ _ _ _ (unknown_names state ops) e
 
 pub write_answer-last_spent : (state : ModelState) (capacity : ℕ) (ops : List Op) → None ≡ slice_get (unknown_names state ops) 0
@@ -98,7 +98,7 @@ command_is_applicable state capacity (Get family key) reply change h i e = cc
 command_is_applicable state capacity (WriteCommand batch) reply change h i e =
     let same : Write batch ≡ change = cc in
     let accepted : IsTrue (is_change (write_answer state capacity batch.ops)) = elim h [
-      inl answer ↦ ap is_change (sym answer) ∙ i
+      | inl answer ↦ ap is_change (sym answer) ∙ i
       | inr stop ↦ elim stop [ inl stopped ↦ absurd (false≢true (sym (ap is_change stopped) ∙ i)) | inr fault ↦ absurd (false≢true (sym (ap is_change fault) ∙ i)) ]
     ] in
     let P : Change → Type 0 = λ c. IsApplicable state c in

@@ -48,7 +48,9 @@ fn is_in_order(calls: &[Call]) -> bool
 fn are_in_order(transcripts: &[Calls]) -> bool
     ensures { IsTrue result ↔ All (IsInOrder 0) transcripts.now }
 {
-    transcripts.iter().all(|calls| is_in_order(calls.as_slice()))
+    transcripts
+        .iter()
+        .all(|calls| is_in_order(calls.as_slice()))
 }
 
 // Whether no place is greater than that one.
@@ -88,9 +90,7 @@ fn are_stored_within(calls: &[Call], most: u64) -> bool
 fn is_stopped(calls: &[Call]) -> bool
     ensures { IsTrue result ↔ All (λ stop. IsTrue (is_stop stop.reply) → All (λ call. IsTrue (is_stored call.reply) → call.place ≤ stop.place) calls.now) calls.now }
 {
-    calls
-        .iter()
-        .all(|stop| !is_stop(&stop.reply) || are_stored_within(calls, stop.place))
+    calls.iter().all(|stop| !is_stop(&stop.reply) || are_stored_within(calls, stop.place))
 }
 
 // Whether the refusals that come from a fault of the disk have one, and no change is stored behind them.

@@ -85,7 +85,9 @@ fn get_answer(
 fn is_or_stops(reply: &Reply, answer: &Reply) -> bool
     ensures { IsTrue result ↔ IsOrStops reply.now answer.now }
 {
-    reply == answer || *reply == Reply::Refused(Refusal::Stopped) || *reply == Reply::Refused(Refusal::DiskFault)
+    reply == answer
+        || *reply == Reply::Refused(Refusal::Stopped)
+        || *reply == Reply::Refused(Refusal::DiskFault)
 }
 
 // Whether the command may be answered so at this state.

@@ -18,5 +18,5 @@ returns c =
     (λ holds. IsTrue holds ↔ All (AnsweredAt c.loop-place.state c.args.capacity (length c.args.accepted.now)) c.args.calls.now)
     (λ holds. IsTrue holds ↔ All (Answered c.args.opening.now c.args.capacity c.args.accepted.now) c.args.calls.now)
     (λ holds. all_answered c.args.opening.now c.loop-place.state c.args.capacity c.args.calls.now c.args.accepted.now c.loop-place.place holds
-        c.loop-place.invariant.state c.loop-place-test.false c.loop-place.auto.place-end c.requires.within c.loop-place.invariant.answered)
+    c.loop-place.invariant.state c.loop-place-test.false c.loop-place.auto.place-end c.requires.within c.loop-place.invariant.answered)
     c.are_answered_at-2.ensures

@@ -10,7 +10,7 @@ pub loop-call-preserved : goal.loop-call-preserved
 loop-call-preserved c =
     let P : Call → Type 0 = λ call. AnsweredAt c.args.state.now c.args.capacity c.args.place call in
     All-more P c.args.calls.now c.loop-call.call-index c.call-item.result c.loop-call-test.true c.loop-call.invariant
-        (subst P c.call-item.is (c.in_ok-is_answered_at.ensures.0 c.if-not-branch.false))
+    (subst P c.call-item.is (c.in_ok-is_answered_at.ensures.0 c.if-not-branch.false))
 
 pub returns : goal.returns
 returns c =

@@ -31,7 +31,7 @@ returns-then-is_placed c =
     (λ holds. IsTrue holds ↔ All (Answered c.args.opening.now c.args.capacity c.args.accepted.now) c.args.calls.now)
     (λ holds. (input_faults : ℕ) → IsTrue holds ↔ IsLegal c.args.opening.now c.args.capacity c.args.transcripts.now input_faults c.args.disk_failed)
     (λ holds answered input_faults. legal_where_placed c.args.opening.now c.args.capacity c.args.transcripts.now c.args.calls.now c.args.accepted.now input_faults c.args.disk_failed holds
-        c.requires.all c.requires.accepted ((c.is_placed.ensures input_faults).0 c.if-is_placed.true) answered)
+    c.requires.all c.requires.accepted ((c.is_placed.ensures input_faults).0 c.if-is_placed.true) answered)
     c.are_answered.ensures
 
 pub returns-else-is_placed : goal.returns-else-is_placed
