@@ -1,1 +1,6 @@
-pub mod Count
+pub mod Disk
+pub mod Files
+pub mod Laws
+pub mod MemDisk
+pub mod Memory
+pub mod Silent

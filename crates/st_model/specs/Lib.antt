@@ -6,5 +6,6 @@ pub mod Answer
 pub mod Reply
 pub mod Word
 pub mod Line
+pub mod Asked
 pub mod History
 pub mod Legal
