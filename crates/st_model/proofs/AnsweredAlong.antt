@@ -9,6 +9,7 @@ use Rattle.st_model.specs.declared.state.ModelState.{ModelState}
 use Rattle.st_model.specs.History.{is_change, after_call, all_calls, accepted, put_call, by_place, accepted_calls}
 use Rattle.st_model.specs.Reply.{IsReply}
 use Rattle.st_model.specs.Legal.{AreNext, IsInOrder, AwaitsRightly, IsAnswered, IsCutRightly, HaveCauses, IsLegal, place_spoken_of, changes_in}
+use Rattle.st_model.proofs.Places.{length-by_place}
 
 -- ---- the accepted calls, sorted
 
@@ -27,21 +28,9 @@ Each-fold P sorted (c ∷ calls) h k = Each-fold P (put_call sorted c) calls (Ea
 All-by_place : (P : Call → Type 0) (calls : List Call) → All P calls → All P (by_place calls)
 All-by_place P calls h = All-from_recursion P (by_place calls) (Each-fold P [] calls tt (recursion_from_All P calls h))
 
-length-put_call : (calls : List Call) (call : Call) → length (put_call calls call) ≡ length calls + 1
-length-put_call [] call = refl
-length-put_call (c ∷ calls) call = go (nat_lt call.place c.place) (length-put_call calls call)
-  where
-    go : (b : Bool) → length (put_call calls call) ≡ length calls + 1 → length (cond b (call ∷ c ∷ calls) (c ∷ put_call calls call)) ≡ length (c ∷ calls) + 1
-    go true h = omega arith
-    go false h = omega (arith, h)
-
-length-fold : (sorted calls : List Call) → length (fold put_call sorted calls) ≡ length sorted + length calls
-length-fold sorted [] = omega arith
-length-fold sorted (c ∷ calls) = omega (arith, length-fold (put_call sorted c) calls, length-put_call sorted c)
-
 -- as many as the changes
 pub length-accepted_calls : (transcripts : List (List Call)) → length (accepted_calls transcripts) ≡ changes_in transcripts
-length-accepted_calls transcripts = omega (arith, length-fold [] (accepted (all_calls transcripts)))
+length-accepted_calls transcripts = length-by_place (accepted (all_calls transcripts))
 
 -- each is a change
 pub accepted_calls_change : (transcripts : List (List Call)) → All (λ (call : Call). IsTrue (is_change call.reply)) (accepted_calls transcripts)

@@ -103,7 +103,8 @@ fn family_after(
     number: u64,
     op: &Op,
 ) -> Result<ModelFamily, AllocError>
-    ensures { IfOk result (λ next. next ≡ (if same name.now (op_family op.now) then with_write (op_entry number op.now) family else family)) }
+    ensures { let written = with_write (op_entry number op.now) family in
+        IfOk result (λ next. next ≡ (if same name.now (op_family op.now) then written else family)) }
 {
     if name == op_family(op) {
         with_write(family, op_entry(number, op)?)

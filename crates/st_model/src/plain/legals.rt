@@ -58,7 +58,8 @@ fn is_answered_at(
     call: &Call,
     place: u64,
 ) -> Result<bool, AllocError>
-    ensures { IfOk result (λ holds. IsTrue holds ↔ (place_spoken_of call.now ≡ place → IsReply state.now capacity call.now.asked call.now.reply)) }
+    ensures { let allowed = IsReply state.now capacity call.now.asked call.now.reply in
+        IfOk result (λ holds. IsTrue holds ↔ (place_spoken_of call.now ≡ place → allowed)) }
 {
     if place_spoken_of(call) == place {
         reply(state, capacity, &call.asked, &call.reply)
@@ -74,7 +75,8 @@ fn are_answered_at(
     calls: &[Call],
     place: u64,
 ) -> Result<bool, AllocError>
-    ensures { IfOk result (λ holds. IsTrue holds ↔ All (λ call. place_spoken_of call ≡ place → IsReply state.now capacity call.asked call.reply) calls.now) }
+    ensures { IfOk result (λ holds.
+        IsTrue holds ↔ All (λ call. place_spoken_of call ≡ place → IsReply state.now capacity call.asked call.reply) calls.now) }
 {
     for call in calls {
         if !is_answered_at(state, capacity, call, place)? {
@@ -92,7 +94,8 @@ fn state_after(
     call: &Call,
 ) -> Result<Option<ModelState>, AllocError>
     requires { IsTrue (is_change call.now.reply) }
-    ensures { IfOk result (λ next. MatchOption next (¬ IsReply state.now capacity call.now.asked call.now.reply) (λ after. after ≡ after_call state.now call.now)) }
+    ensures { let refused = ¬ IsReply state.now capacity call.now.asked call.now.reply in
+        IfOk result (λ next. MatchOption next refused (λ after. after ≡ after_call state.now call.now)) }
 {
     if !reply(state, capacity, &call.asked, &call.reply)? {
         return Ok(None);
@@ -115,7 +118,8 @@ fn are_answered(
     requires changes { All (λ call. IsTrue (is_change call.reply)) accepted.now }
     requires among { All (Contains calls.now) accepted.now }
     requires within { All (λ call. call.place ≤ length accepted.now) calls.now }
-    ensures { IfOk result (λ holds. IsTrue holds ↔ All (λ call. IsReply (fold after_call opening.now (take (place_spoken_of call) accepted.now)) capacity call.asked call.reply) calls.now) }
+    ensures { IfOk result (λ holds. IsTrue holds ↔ All (λ call.
+        IsReply (fold after_call opening.now (take (place_spoken_of call) accepted.now)) capacity call.asked call.reply) calls.now) }
 {
     let mut state = opening.clone()?;
     for (place, change) in accepted.iter().enumerate() {
@@ -142,7 +146,8 @@ fn are_legal(
 ) -> Result<bool, AllocError>
     requires all { calls.now ≡ all_calls transcripts.now }
     requires accepted { accepted.now ≡ accepted_calls transcripts.now }
-    ensures { IfOk result (λ holds. (input_faults : ℕ) → IsTrue holds ↔ IsLegal opening.now capacity transcripts.now input_faults disk_failed) }
+    ensures { IfOk result (λ holds.
+        (input_faults : ℕ) → IsTrue holds ↔ IsLegal opening.now capacity transcripts.now input_faults disk_failed) }
 {
     if is_placed(transcripts, calls, accepted, disk_failed) {
         are_answered(alloc, opening, capacity, calls, accepted)

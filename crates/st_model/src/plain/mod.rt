@@ -14,3 +14,6 @@ pub use histories::history;
 pub use legals::legal;
 pub use reads::read;
 pub use replies::reply;
+
+#[cfg(test)]
+mod tests;

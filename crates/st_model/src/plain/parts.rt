@@ -88,7 +88,8 @@ fn are_stored_within(calls: &[Call], most: u64) -> bool
 
 // Whether no change is stored behind a disk fault.
 fn is_stopped(calls: &[Call]) -> bool
-    ensures { IsTrue result ↔ All (λ stop. IsTrue (is_stop stop.reply) → All (λ call. IsTrue (is_stored call.reply) → call.place ≤ stop.place) calls.now) calls.now }
+    ensures { IsTrue result ↔ All (λ stop. IsTrue (is_stop stop.reply)
+        → All (λ call. IsTrue (is_stored call.reply) → call.place ≤ stop.place) calls.now) calls.now }
 {
     calls.iter().all(|stop| !is_stop(&stop.reply) || are_stored_within(calls, stop.place))
 }
@@ -107,7 +108,11 @@ pub(super) fn is_placed(
     accepted: &[Call],
     disk_failed: bool,
 ) -> bool
-    ensures { (input_faults : ℕ) → IsTrue result ↔ AreNext 0 (map (λ call. call.place) accepted.now) × All (IsInOrder 0) transcripts.now × All (λ call. call.place ≤ length accepted.now) calls.now × HaveCauses calls.now input_faults disk_failed }
+    ensures { (input_faults : ℕ) → IsTrue result ↔
+        AreNext 0 (map (λ call. call.place) accepted.now)
+        × All (IsInOrder 0) transcripts.now
+        × All (λ call. call.place ≤ length accepted.now) calls.now
+        × HaveCauses calls.now input_faults disk_failed }
 {
     if !are_next(accepted) {
         return false;

@@ -16,7 +16,7 @@ use st_base::{Family, Key};
 use std::alloc::AllocError;
 use std::cmp::Ordering;
 
-/// The greatest sequence number, and the greatest place.
+// The greatest sequence number, and the greatest place.
 const GREATEST_NUMBER: u64 = (1 << 56) - 1;
 
 // The family of that name.
