@@ -1,0 +1,5 @@
+pub mod Block
+pub mod Entry
+pub mod InternalKey
+pub mod Place
+pub mod Written

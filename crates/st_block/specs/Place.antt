@@ -1,0 +1,2 @@
+-- Places in an opened block.
+use Rattle.std.specs.Prelude.{ℕ}

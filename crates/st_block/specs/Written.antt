@@ -1,0 +1,2 @@
+-- How a block is written.
+use Rattle.std.specs.Prelude.{ℕ}

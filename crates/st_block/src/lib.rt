@@ -1,0 +1,9 @@
+//! One block of a table: prefix-compressed entries, restart offsets, and their count.
+#![tactic(auto)]
+
+mod entry;
+mod keys;
+mod kind;
+mod tail;
+
+pub use kind::BlockKind;
