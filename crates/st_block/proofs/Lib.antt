@@ -1,3 +1,4 @@
 pub mod Cells
 pub mod Fronts
 pub mod Offsets
+pub mod Tested

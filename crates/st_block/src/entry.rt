@@ -1,6 +1,6 @@
 ghost use Rattle.std.specs.Prelude.{◌≡◌, ◌<◌, ◌≤◌, length, Some, None, IfNone, IfSome, MatchOption, option_map, slice_range};
 ghost use Rattle.st_block.specs.Block.{Cell, cell_at, fits, head_at, laid};
-ghost use Rattle.st_block.specs.Entry.{AreLengths, IsHead, IsRead, cell_of, head_of};
+ghost use Rattle.st_block.specs.Entry.{AreLengths, IsFitting, IsHead, IsRead, cell_of, head_of};
 
 use st_base::{INTERNAL_KEY_BYTES, Scratch};
 use st_code::read_varint32;
@@ -57,17 +57,23 @@ pub(crate) struct Read {
     pub(crate) next: usize,
 }
 
-// The entry at the place, behind the key in the scratch; its key is put into the scratch. None, and the scratch is left
-// as it was, where no entry stands there.
+// The head of the entry at the place behind a key, or none where no entry stands there.
 #[tactic(auto, unfolding(crate::specs::Block::cell_at))]
-pub(crate) fn read_at(area: &[u8], at: usize, scratch: &mut Scratch) -> Option<Read>
-    ensures found { IfSome result (λ read. cell_at area.now scratch.old at ≡ Some (cell_of area.now at scratch.new read, read.next) × IsRead (length area.now) at read) }
-    ensures none { IfNone result (cell_at area.now scratch.old at ≡ None × scratch.new ≡ scratch.old) }
+pub(crate) fn head_behind(area: &[u8], before: &[u8], at: usize) -> Option<Head>
+    ensures found { IfSome result (λ head. (cell_at area.now before.now at ≡ Some (laid area.now before.now at (head_of head))) × IsFitting area.now before.now at head) }
+    ensures none { IfNone result (cell_at area.now before.now at ≡ None) }
 {
     let head = head_at(area, at)?;
-    if !fits(area, scratch.as_slice(), head) {
-        return None;
-    }
+    if fits(area, before, head) { Some(head) } else { None }
+}
+
+// The entry at the place, behind the key in the scratch; its key is put into the scratch. None, and the scratch is left
+// as it was, where no entry stands there.
+pub(crate) fn read_at(area: &[u8], at: usize, scratch: &mut Scratch) -> Option<Read>
+    ensures found { IfSome result (λ read. (cell_at area.now scratch.old at ≡ Some (cell_of area.now at scratch.new read, read.next)) × IsRead (length area.now) at read) }
+    ensures none { IfNone result ((cell_at area.now scratch.old at ≡ None) × (scratch.new ≡ scratch.old)) }
+{
+    let head = head_behind(area, scratch.as_slice(), at)?;
     let value = head.behind + head.unshared;
     scratch.keep_and_add(head.shared, &area[head.behind..value]);
     Some(Read {

@@ -4,6 +4,7 @@
 mod entry;
 mod keys;
 mod kind;
+mod open;
 mod tail;
 
 pub use kind::BlockKind;
