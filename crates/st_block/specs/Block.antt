@@ -128,11 +128,15 @@ is_restart cells offset = list_any (λ cell. (cell.at == offset) && (cell.shared
 
 -- ---- the block
 
--- a data block has an entry; a block without entries has one restart; each restart is an entry that shares nothing
+-- a data block has an entry; another block without entries has one restart
+abbrev pub none_fit : BlockKind → List ℕ → Result (List Cell) BlockFault
+none_fit Data restarts = Err (Entry 0)
+none_fit Index restarts = if length restarts == 1 then Ok [] else Err Restarts
+none_fit Plain restarts = if length restarts == 1 then Ok [] else Err Restarts
+
+-- each restart is an entry that shares nothing
 abbrev pub restarts_fit : BlockKind → List ℕ → List Cell → Result (List Cell) BlockFault
-restarts_fit Data restarts [] = Err (Entry 0)
-restarts_fit Index restarts [] = if length restarts == 1 then Ok [] else Err Restarts
-restarts_fit Plain restarts [] = if length restarts == 1 then Ok [] else Err Restarts
+restarts_fit kind restarts [] = none_fit kind restarts
 restarts_fit kind restarts (cell ∷ cells) = if list_all (is_restart (cell ∷ cells)) restarts then Ok (cell ∷ cells) else Err Restarts
 
 abbrev pub fitted : BlockKind → List ℕ → Result (List Cell) BlockFault → Result (List Cell) BlockFault

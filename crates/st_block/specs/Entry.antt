@@ -1,7 +1,7 @@
 -- What the code reads of an entry.
 use Rattle.std.specs.Prelude.{ℕ, ◌+◌, ◌-◌, ◌*◌, ◌^◌, ◌<◌, ◌≤◌, ◌==◌, ◌&&◌, ◌≡◌, List, [], ◌∷◌, length, slice_range, if◌then◌else◌}
-use Rattle.std.specs.Prelude.{Result, Ok, Err, take, All, IsTrue, ◌++◌, ◌≢◌, ◌⊎◌}
-use Rattle.std.specs.List.{fold}
+use Rattle.std.specs.Prelude.{Result, Ok, Err, take, true, IsTrue, ◌++◌, ◌≢◌, ◌⊎◌}
+use Rattle.std.specs.List.{fold, list_all}
 use Rattle.st_block.specs.Block.{Cell, Head, block_of, cells_from, entries_of, is_long, is_restart, offsets_at}
 use Rattle.st_base.specs.declared.faults.BlockFault.{BlockFault}
 use Rattle.st_base.specs.declared.faults.BlockFault.TheVariants.{Restarts, Entry}
@@ -80,7 +80,8 @@ pub record IsTested (kind : BlockKind) (text area : List ℕ) (tail : Tail) (fou
 pub record IsLayout (kind : BlockKind) (text : List ℕ) (layout : Layout) (cells : List Cell) : Type 0 where
   pub block : block_of kind text ≡ Ok cells
   pub area : entries_of kind (take layout.end text) ≡ Ok cells
-  pub restarts : All (λ offset. IsTrue (is_restart cells offset)) (offsets_at text layout.end layout.restarts)
+  pub first : offsets_at text layout.end layout.restarts ≡ 0 ∷ offsets_at text (layout.end + 4) (layout.restarts - 1)
+  pub restarts : 0 < layout.entries → list_all (is_restart cells) (offsets_at text layout.end layout.restarts) ≡ true
   pub count : length cells ≡ layout.entries
   pub room : layout.end + 4 * layout.restarts + 4 ≡ length text
 
