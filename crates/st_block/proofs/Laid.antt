@@ -59,7 +59,7 @@ guard_some : {A : Type 0} (t : Bool) (x y : A) → cond t (Some x) None ≡ Some
 guard_some true x y e = (refl, cc)
 guard_some false x y e = absurd cc
 
-some_is : {A : Type 0} (x y : A) → Some x ≡ Some y → x ≡ y
+pub some_is : {A : Type 0} (x y : A) → Some x ≡ Some y → x ≡ y
 some_is x y e = cc
 
 pub head_behind_place : (area : List ℕ) (at : ℕ) (head : Head) → head_at area at ≡ Some head → at < head.behind

@@ -34,11 +34,11 @@ met_there (cell ∷ cells) (r ∷ rs) e =
 -- ---- what is there is met, where offsets and entries rise
 
 -- all stand behind a place
-abbrev Behind : ℕ → List Cell → Type 0
+abbrev pub Behind : ℕ → List Cell → Type 0
 Behind at [] = Unit {0}
 Behind at (cell ∷ cells) = (at < cell.at) × Behind at cells
 
-abbrev Rising : List Cell → Type 0
+abbrev pub Rising : List Cell → Type 0
 Rising [] = Unit {0}
 Rising (cell ∷ cells) = Behind cell.at cells × Rising cells
 
@@ -53,7 +53,7 @@ no_match cell r n =
       | inr f ↦ f
     ]
 
-not_there : (at r : ℕ) (cells : List Cell) → Behind at cells → r ≤ at → is_restart cells r ≡ false
+pub not_there : (at r : ℕ) (cells : List Cell) → Behind at cells → r ≤ at → is_restart cells r ≡ false
 not_there at r [] h le = refl
 not_there at r (cell ∷ cells) h le =
     ap (λ (t : Bool). t || is_restart cells r) (no_match cell r (λ w. omega (arith, h.0))) ∙ not_there at r cells h.1 le

@@ -10,18 +10,20 @@ use std::cmp::Ordering;
 
 // The number of an internal key, packed with its kind.
 fn packed(internal: &[u8]) -> u64
-    requires { 8 ≤ length internal.now }
     ensures { result ≡ packed internal.now }
 {
-    read_fixed64(internal, internal.len() - 8).unwrap_or(0)
+    let from = internal.len().saturating_sub(8);
+    match read_fixed64(internal, from) {
+        Some(number) => number,
+        None => packed_short(internal),
+    }
 }
 
 // Whether the internal key comes before the place of the key and the number.
 pub(crate) fn is_key_before(internal: &[u8], key: &[u8], number: u64) -> bool
-    requires { 8 ≤ length internal.now }
     ensures { result ≡ is_key_before key.now number internal.now }
 {
-    let user_key = &internal[..internal.len() - 8];
+    let user_key = &internal[..internal.len().saturating_sub(8)];
     match user_key.cmp(key) {
         Ordering::Less => true,
         Ordering::Equal => number < packed(internal) / 256,
@@ -57,6 +59,23 @@ fn cmp_fronts(before: &[u8], front: usize, shared: usize, others: &[u8], new_fro
         }
     }
     front.cmp(&new_front)
+}
+
+// The number that stands in fewer than 8 bytes.
+fn packed_short(internal: &[u8]) -> u64
+    requires { length internal.now < 8 }
+    ensures { result ≡ packed internal.now }
+{
+    u64::from_le_bytes([
+        byte_at(internal, 0, internal, 0),
+        byte_at(internal, 0, internal, 1),
+        byte_at(internal, 0, internal, 2),
+        byte_at(internal, 0, internal, 3),
+        byte_at(internal, 0, internal, 4),
+        byte_at(internal, 0, internal, 5),
+        byte_at(internal, 0, internal, 6),
+        byte_at(internal, 0, internal, 7),
+    ])
 }
 
 // The number of the new internal key, packed with its kind.

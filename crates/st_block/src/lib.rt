@@ -6,5 +6,6 @@ mod keys;
 mod kind;
 mod open;
 mod tail;
+mod walk;
 
 pub use kind::BlockKind;
