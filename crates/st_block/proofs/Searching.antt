@@ -6,7 +6,7 @@ use Rattle.std.specs.List.{list_all}
 use Rattle.std.specs.Ordering.{nat_cmp, ordering_then, is_lt}
 use Rattle.std.proofs.lemmas.Bool.{cases_Bool, cases_lt, and_parts, eqb-true, false≢true, lt-ltb, le-ltb}
 use Rattle.std.proofs.lemmas.Cmp.{nat_list_cmp_total, tied_itself, tied_back, alike_right}
-use Rattle.std.proofs.lemmas.List.{nil_from_length}
+use Rattle.std.proofs.lemmas.List.{nil_from_length, length-take}
 use Rattle.st_base.specs.Bytes.{bytes_cmp}
 use Rattle.st_base.specs.Order.{rises, rises_behind}
 use Rattle.st_block.specs.Block.{Cell, cell_at, entries_of, is_restart, offsets_at}
@@ -18,7 +18,7 @@ use Rattle.st_block.specs.declared.kind.BlockKind.{BlockKind}
 use Rattle.st_block.specs.declared.open.Layout.{Layout}
 use Rattle.st_block.proofs.Laid.{Laid, entries_laid}
 use Rattle.st_block.proofs.Meeting.{Rising, laid_rising}
-use Rattle.st_block.proofs.Places.{at_start, cases_list, first_at, restart_at}
+use Rattle.st_block.proofs.Places.{at_start, cases_list, first_at, primes_of, restart_at}
 
 -- ---- restarts by their place
 
@@ -203,3 +203,22 @@ module _ (kind : BlockKind) (text : List ℕ) (layout : Layout) (lies : IsLayout
         place = ap (λ (l : List Cell). place_of layout.end (cells_at layout.end l)) nil;
         primes = subst (λ (l : List Cell). Primes scratch (cells_at layout.end l)) (sym nil) tt;
       })
+
+-- a reader may begin with the first entry
+pub from_start : (kind : BlockKind) (text : List ℕ) (layout : Layout) → IsLayout kind text layout (cells_in kind (take layout.end text))
+    → (cells_at 0 (cells_in kind (take layout.end text)) ≡ cells_in kind (take layout.end text)) × ((key : List ℕ) → Stands (contents_in kind text layout) 0 key)
+from_start kind text layout lies =
+    let cells = cells_in kind (take layout.end text) in
+    let lie = entries_laid kind (take layout.end text) cells lies.area in
+    let s = at_start (take layout.end text) [] 0 cells lie in
+    let end : length (take layout.end text) ≡ layout.end = omega (arith, length-take layout.end text, lies.room) in
+    (s.0, λ key. record {
+      place = ap (place_of layout.end) s.0 ∙ subst (λ (k : ℕ). place_of k cells ≡ 0) end s.1;
+      primes = subst (Primes key) (sym s.0) (bare key cells (primes_of (take layout.end text) [] 0 cells lie));
+    })
+  where
+    bare : (key : List ℕ) (l : List Cell) → Primes [] l → Primes key l
+    bare key [] p = tt
+    bare key (cell ∷ l) p =
+        let none : cell.shared ≡ 0 = omega (arith, p.0) in
+        (omega arith, ap (λ (k : ℕ). take k key) none ∙ ap (λ (k : ℕ). take k cell.key) (sym none))
