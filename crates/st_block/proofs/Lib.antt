@@ -8,3 +8,4 @@ pub mod Offsets
 pub mod Places
 pub mod Searching
 pub mod Tested
+pub mod Writers

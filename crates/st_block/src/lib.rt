@@ -5,9 +5,13 @@ mod block;
 mod entry;
 mod keys;
 mod kind;
+mod laws;
 mod open;
 mod tail;
 mod walk;
+mod writer;
 
 pub use block::{Block, BlockEntry};
 pub use kind::BlockKind;
+pub use laws::writer_holds_what_is_added;
+pub use writer::BlockWriter;
