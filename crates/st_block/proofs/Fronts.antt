@@ -38,14 +38,14 @@ pub cmp_end : (xs ys : List ℕ) (i : ℕ) → i ≡ min (length xs) (length ys)
 cmp_end xs ys i e =
     elim (cases_order (length xs) (length ys)) [
       | inl same ↦
-        ap (λ (z : List ℕ). bytes_cmp z (drop i ys)) (drop_all i xs (omega arith)) ∙ ap (λ (z : List ℕ). bytes_cmp [] z) (drop_all i ys (omega arith))
-        ∙ sym (ap (λ (n : ℕ). nat_cmp (length xs) n) (sym same) ∙ tied_itself nat_cmp_total (length xs))
+          ap (λ (z : List ℕ). bytes_cmp z (drop i ys)) (drop_all i xs (omega arith)) ∙ ap (λ (z : List ℕ). bytes_cmp [] z) (drop_all i ys (omega arith))
+          ∙ sym (ap (λ (n : ℕ). nat_cmp (length xs) n) (sym same) ∙ tied_itself nat_cmp_total (length xs))
       | inr (inl less) ↦
-        ap (λ (z : List ℕ). bytes_cmp z (drop i ys)) (drop_all i xs (omega arith)) ∙ longer ys i (omega arith)
-        ∙ sym (ap (λ (t : Bool). cond t Less (cond (eqb (length xs) (length ys)) Equal Greater)) (lt-ltb (length xs) (length ys) less))
+          ap (λ (z : List ℕ). bytes_cmp z (drop i ys)) (drop_all i xs (omega arith)) ∙ longer ys i (omega arith)
+          ∙ sym (ap (λ (t : Bool). cond t Less (cond (eqb (length xs) (length ys)) Equal Greater)) (lt-ltb (length xs) (length ys) less))
       | inr (inr more) ↦
-        ap (λ (z : List ℕ). bytes_cmp (drop i xs) z) (drop_all i ys (omega arith)) ∙ shorter xs i (omega arith)
-        ∙ sym (ap (λ (t : Bool). cond t Less (cond (eqb (length xs) (length ys)) Equal Greater)) (le-ltb (length xs) (length ys) (omega arith))
+          ap (λ (z : List ℕ). bytes_cmp (drop i xs) z) (drop_all i ys (omega arith)) ∙ shorter xs i (omega arith)
+          ∙ sym (ap (λ (t : Bool). cond t Less (cond (eqb (length xs) (length ys)) Equal Greater)) (le-ltb (length xs) (length ys) (omega arith))
           ∙ ap (λ (t : Bool). cond t Equal Greater) (ne_eqb (length xs) (length ys) (λ w. omega arith)))
     ]
 

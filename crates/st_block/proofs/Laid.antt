@@ -26,6 +26,7 @@ spelled_some (suc most) (b ∷ bytes) found e = last_or_more (ltb b 128) b (spel
     low_some : (low : ℕ) (rest : Number) (found : ℕ × ℕ) → with_low low rest ≡ Ok found → 1 ≤ found.1
     low_some low (Ok high) found e = let same : (low + high.0 * 128, suc high.1) ≡ found = cc in subst (λ (f : ℕ × ℕ). 1 ≤ f.1) same (omega arith)
     low_some low (Err fault) found e = absurd cc
+
     last_or_more : (t : Bool) (b : ℕ) (rest : Number) (found : ℕ × ℕ) → cond t (Ok (b, 1)) (with_low (b - 128) rest) ≡ Ok found → 1 ≤ found.1
     last_or_more true b rest found e = let same : (b, 1) ≡ found = cc in subst (λ (f : ℕ × ℕ). 1 ≤ f.1) same (omega arith)
     last_or_more false b rest found e = low_some (b - 128) rest found e
@@ -35,10 +36,10 @@ placed_behind at limit (Err fault) h found e = absurd cc
 placed_behind at limit (Ok number) h found e =
     elim (cases_Bool (ltb number.0 limit)) [
       | inl t ↦
-        let one : 1 ≤ number.1 = h number refl in
-        let same : (let read : Number = Ok (number.0, at + number.1) in read) ≡ Ok found = sym (ap (λ (t : Bool). placed at (cond t (Ok number) (Err TooLong))) t) ∙ e in
-        let pair : (number.0, at + number.1) ≡ found = cc in
-        subst (λ (f : ℕ × ℕ). at < f.1) pair (omega arith)
+          let one : 1 ≤ number.1 = h number refl in
+          let same : (let read : Number = Ok (number.0, at + number.1) in read) ≡ Ok found = sym (ap (λ (t : Bool). placed at (cond t (Ok number) (Err TooLong))) t) ∙ e in
+          let pair : (number.0, at + number.1) ≡ found = cc in
+          subst (λ (f : ℕ × ℕ). at < f.1) pair (omega arith)
       | inr f ↦ absurd (let same : (let read : Number = Err TooLong in read) ≡ Ok found = sym (ap (λ (t : Bool). placed at (cond t (Ok number) (Err TooLong))) f) ∙ e in cc)
     ]
 
@@ -128,15 +129,15 @@ laid_cells zero kind area before at cells in' fuel e =
 laid_cells (suc most) kind area before at cells in' fuel e =
     elim (cases_Bool (eqb at (length area))) [
       | inl t ↦
-        let same : (let read : Cells = Ok [] in read) ≡ Ok cells = sym (ap (λ (t : Bool). cond t (Ok []) (found_then (next_cell kind area before at) (λ found. cells_from most kind area found.0.key found.1))) t) ∙ e in
-        let none : [] ≡ cells = cc in
-        subst (λ (l : List Cell). Laid area before at l) none (eqb-true _ _ t)
+          let same : (let read : Cells = Ok [] in read) ≡ Ok cells = sym (ap (λ (t : Bool). cond t (Ok []) (found_then (next_cell kind area before at) (λ found. cells_from most kind area found.0.key found.1))) t) ∙ e in
+          let none : [] ≡ cells = cc in
+          subst (λ (l : List Cell). Laid area before at l) none (eqb-true _ _ t)
       | inr f ↦
-        let same : found_then (next_cell kind area before at) (λ found. cells_from most kind area found.0.key found.1) ≡ Ok cells = sym (ap (λ (t : Bool). cond t (Ok []) (found_then (next_cell kind area before at) (λ found. cells_from most kind area found.0.key found.1))) f) ∙ e in
-        let r = found_ok (next_cell kind area before at) (λ found. cells_from most kind area found.0.key found.1) cells same in
-        let there = tested_some kind before at (cell_at area before at) r.0 r.1 in
-        let p = next_behind area before at r.0 there in
-        subst (λ (l : List Cell). Laid area before at l) r.2.2 (r.0.1, there, laid_cells most kind area r.0.0.key r.0.1 r.2.0 p.1 (omega (arith, p.0, p.1)) r.2.1)
+          let same : found_then (next_cell kind area before at) (λ found. cells_from most kind area found.0.key found.1) ≡ Ok cells = sym (ap (λ (t : Bool). cond t (Ok []) (found_then (next_cell kind area before at) (λ found. cells_from most kind area found.0.key found.1))) f) ∙ e in
+          let r = found_ok (next_cell kind area before at) (λ found. cells_from most kind area found.0.key found.1) cells same in
+          let there = tested_some kind before at (cell_at area before at) r.0 r.1 in
+          let p = next_behind area before at r.0 there in
+          subst (λ (l : List Cell). Laid area before at l) r.2.2 (r.0.1, there, laid_cells most kind area r.0.0.key r.0.1 r.2.0 p.1 (omega (arith, p.0, p.1)) r.2.1)
     ]
 
 pub entries_laid : (kind : BlockKind) (area : List ℕ) (cells : List Cell) → entries_of kind area ≡ Ok cells → Laid area [] 0 cells

@@ -30,12 +30,15 @@ tail_rises text tail e = outer (ltb (length text) 4) (counted text (from_le_byte
     outer : (t : Bool) (o : Option Parts) → cond t None o ≡ Some tail → (o ≡ Some tail → are_restarts tail.restarts ≡ true) → are_restarts tail.restarts ≡ true
     outer true o e f = absurd cc
     outer false o e f = f e
+
     last : (t : Bool) (parts : Parts) → cond t (Some parts) None ≡ Some tail → (t ≡ true) × (parts ≡ tail)
     last true parts e = (refl, cc)
     last false parts e = absurd cc
+
     first : (t : Bool) (o : Option Parts) → cond t None o ≡ Some tail → o ≡ Some tail
     first true o e = absurd cc
     first false o e = e
+
     inner : (count : ℕ) → counted text count ≡ Some tail → are_restarts tail.restarts ≡ true
     inner count e =
         let at = length text - (4 * count + 4) in
@@ -108,8 +111,10 @@ module _ (kind : BlockKind) (text : List ℕ) (tail : Tail) (found : Found) (cel
     where
       restarts_wrong : (0 < found.entries) × (found.met ≢ tail.count) × (fault ≡ Restarts) → restarts_fit kind (offsets_at text tail.end tail.count) cells ≡ Err fault
       restarts_wrong p = some_fit false p.0 (not_all p.1) ∙ ap (λ (f : BlockFault). Err f) (sym p.2)
+
       one_wrong : (found.entries ≡ 0) × (tail.count ≢ 1) × (fault ≡ Restarts) → none_fit Index (offsets_at text tail.end tail.count) ≡ Err fault
       one_wrong p = ap (λ (t : Bool). cond t (Ok []) (Err Restarts)) (count_is 1 false (ne_eqb tail.count 1 p.1)) ∙ ap (λ (f : BlockFault). Err f) (sym p.2)
+
       by_kind : (k : BlockKind) → (found.entries ≡ 0 → restarts_fit kind (offsets_at text tail.end tail.count) cells ≡ none_fit k (offsets_at text tail.end tail.count)) → IsUnfit k tail.count found fault → restarts_fit kind (offsets_at text tail.end tail.count) cells ≡ Err fault
       by_kind Data none (inl p) = none p.0 ∙ ap (λ (f : BlockFault). Err f) (sym p.1)
       by_kind Data none (inr p) = restarts_wrong p
@@ -123,8 +128,10 @@ module _ (kind : BlockKind) (text : List ℕ) (tail : Tail) (found : Found) (cel
     where
       all_right : (0 < found.entries) × (found.met ≡ tail.count) → restarts_fit kind (offsets_at text tail.end tail.count) cells ≡ Ok cells
       all_right p = some_fit true p.0 (all_there p.1)
+
       one_right : (found.entries ≡ 0) × (tail.count ≡ 1) → none_fit Index (offsets_at text tail.end tail.count) ≡ Ok cells
       one_right p = ap (λ (t : Bool). cond t (Ok []) (Err Restarts)) (count_is 1 true (eq-eqb tail.count 1 p.1)) ∙ ap (λ (l : List Cell). Ok l) (empty_is p.0)
+
       by_kind : (k : BlockKind) → (found.entries ≡ 0 → restarts_fit kind (offsets_at text tail.end tail.count) cells ≡ none_fit k (offsets_at text tail.end tail.count)) → MayStand k tail.count found → restarts_fit kind (offsets_at text tail.end tail.count) cells ≡ Ok cells
       by_kind Data none p = all_right p
       by_kind Index none (inl p) = none p.0 ∙ one_right p

@@ -26,8 +26,8 @@ met_there (cell ∷ cells) [] e = refl
 met_there (cell ∷ cells) (r ∷ rs) e =
     elim (cases_Bool (fits cell r)) [
       | inl t ↦
-        let rest = met_there cells rs (sym (ap (λ (t : Bool). fold pass (cond t rs (r ∷ rs)) cells) t) ∙ e) in
-        and_from (is_restart (cell ∷ cells) r) (list_all (is_restart (cell ∷ cells)) rs) (or_left (fits cell r) (is_restart cells r) t) (more_there cell cells rs rest)
+          let rest = met_there cells rs (sym (ap (λ (t : Bool). fold pass (cond t rs (r ∷ rs)) cells) t) ∙ e) in
+          and_from (is_restart (cell ∷ cells) r) (list_all (is_restart (cell ∷ cells)) rs) (or_left (fits cell r) (is_restart cells r) t) (more_there cell cells rs rest)
       | inr f ↦ more_there cell cells (r ∷ rs) (met_there cells (r ∷ rs) (sym (ap (λ (t : Bool). fold pass (cond t rs (r ∷ rs)) cells) f) ∙ e))
     ]
 
@@ -93,14 +93,14 @@ there_met (cell ∷ cells) (r ∷ rs) c o h =
     let above = above_of r rs o in
     elim (cases_Bool (fits cell r)) [
       | inl t ↦
-        let at-is : cell.at ≡ r = eqb-true _ _ (and_parts (eqb cell.at r) (eqb cell.shared 0) t).0 in
-        ap (λ (t : Bool). fold pass (cond t rs (r ∷ rs)) cells) t
-        ∙ there_met cells rs c.1 (rest_rises r rs o) (fewer_there cell cells rs r (omega arith) above p.1)
+          let at-is : cell.at ≡ r = eqb-true _ _ (and_parts (eqb cell.at r) (eqb cell.shared 0) t).0 in
+          ap (λ (t : Bool). fold pass (cond t rs (r ∷ rs)) cells) t
+          ∙ there_met cells rs c.1 (rest_rises r rs o) (fewer_there cell cells rs r (omega arith) above p.1)
       | inr f ↦
-        let here : is_restart cells r ≡ true = sym (ap (λ (t : Bool). t || is_restart cells r) f) ∙ p.0 in
-        let low : cell.at ≤ r = elim (cases_lt r cell.at) [ inl lt ↦ absurd (false≢true (sym (not_there cell.at r cells c.0 (omega arith)) ∙ here)) | inr le ↦ le ] in
-        ap (λ (t : Bool). fold pass (cond t rs (r ∷ rs)) cells) f
-        ∙ there_met cells (r ∷ rs) c.1 o (and_from (is_restart cells r) (list_all (is_restart cells) rs) here (fewer_there cell cells rs r low above p.1))
+          let here : is_restart cells r ≡ true = sym (ap (λ (t : Bool). t || is_restart cells r) f) ∙ p.0 in
+          let low : cell.at ≤ r = elim (cases_lt r cell.at) [ inl lt ↦ absurd (false≢true (sym (not_there cell.at r cells c.0 (omega arith)) ∙ here)) | inr le ↦ le ] in
+          ap (λ (t : Bool). fold pass (cond t rs (r ∷ rs)) cells) f
+          ∙ there_met cells (r ∷ rs) c.1 o (and_from (is_restart cells r) (list_all (is_restart cells) rs) here (fewer_there cell cells rs r low above p.1))
     ]
 
 -- entries that lie one behind the other rise

@@ -70,29 +70,29 @@ first_at area before low (one ∷ cells) l at cell rest e =
     let p = next_behind area before low (one, l.0) l.1 in
     elim (cases_Bool (eqb one.at at)) [
       | inl t ↦
-        let same : one ∷ cells ≡ cell ∷ rest = sym (ap (λ (t : Bool). cond t (one ∷ cells) (cells_at at cells)) t) ∙ e in
-        let here : low ≡ at = sym p.2 ∙ eqb-true _ _ t in
-        let one-is : one ≡ cell = cc in
-        let rest-is : cells ≡ rest = cc in
-        subst (λ (c : Cell). IsFirst area (one ∷ cells) low at c rest) one-is (subst (λ (r : List Cell). IsFirst area (one ∷ cells) low at one r) rest-is (record {
-          before = before;
-          next = l.0;
-          there = subst (λ (k : ℕ). cell_at area before k ≡ Some (one, l.0)) here l.1;
-          laid = l.2;
-          rest_is = past one cells l.0 (omega (arith, p.0, p.2)) ∙ (at_start area one.key l.0 cells l.2).0;
-          low_is = p.0;
-        }))
+          let same : one ∷ cells ≡ cell ∷ rest = sym (ap (λ (t : Bool). cond t (one ∷ cells) (cells_at at cells)) t) ∙ e in
+          let here : low ≡ at = sym p.2 ∙ eqb-true _ _ t in
+          let one-is : one ≡ cell = cc in
+          let rest-is : cells ≡ rest = cc in
+          subst (λ (c : Cell). IsFirst area (one ∷ cells) low at c rest) one-is (subst (λ (r : List Cell). IsFirst area (one ∷ cells) low at one r) rest-is (record {
+            before = before;
+            next = l.0;
+            there = subst (λ (k : ℕ). cell_at area before k ≡ Some (one, l.0)) here l.1;
+            laid = l.2;
+            rest_is = past one cells l.0 (omega (arith, p.0, p.2)) ∙ (at_start area one.key l.0 cells l.2).0;
+            low_is = p.0;
+          }))
       | inr f ↦
-        let same : cells_at at cells ≡ cell ∷ rest = sym (ap (λ (t : Bool). cond t (one ∷ cells) (cells_at at cells)) f) ∙ e in
-        let inner = first_at area one.key l.0 cells l.2 at cell rest same in
-        record {
-          before = inner.before;
-          next = inner.next;
-          there = inner.there;
-          laid = inner.laid;
-          rest_is = past one cells inner.next (omega (arith, p.0, p.2, inner.low_is)) ∙ inner.rest_is;
-          low_is = omega (arith, p.0, inner.low_is);
-        }
+          let same : cells_at at cells ≡ cell ∷ rest = sym (ap (λ (t : Bool). cond t (one ∷ cells) (cells_at at cells)) f) ∙ e in
+          let inner = first_at area one.key l.0 cells l.2 at cell rest same in
+          record {
+            before = inner.before;
+            next = inner.next;
+            there = inner.there;
+            laid = inner.laid;
+            rest_is = past one cells inner.next (omega (arith, p.0, p.2, inner.low_is)) ∙ inner.rest_is;
+            low_is = omega (arith, p.0, inner.low_is);
+          }
     ]
 
 pub cases_list : (cells : List Cell) → (cells ≡ []) ⊎ ((cell : Cell) × ((rest : List Cell) × (cells ≡ cell ∷ rest)))
@@ -107,9 +107,9 @@ module _ (area : List ℕ) (block : Contents) (lie : Laid area [] 0 block.cells)
       elim (cases_list (cells_at block.end block.cells)) [
         | inl none ↦ none
         | inr some ↦
-          let f = first_at area [] 0 block.cells lie block.end some.0 some.1.0 some.1.1 in
-          let p = next_behind area f.before block.end (some.0, f.next) f.there in
-          absurd (omega (arith, p.0, p.1))
+            let f = first_at area [] 0 block.cells lie block.end some.0 some.1.0 some.1.1 in
+            let p = next_behind area f.before block.end (some.0, f.next) f.there in
+            absurd (omega (arith, p.0, p.1))
       ]
 
   pub behind_first : (at : ℕ) (cell : Cell) (rest : List Cell) (f : IsFirst area block.cells 0 at cell rest) → Stands block f.next cell.key
@@ -164,13 +164,13 @@ restart_at [] r c h = absurd cc
 restart_at (one ∷ cells) r c h =
     elim (cases_Bool (eqb one.at r)) [
       | inl t ↦
-        let at-is : one.at ≡ r = eqb-true _ _ t in
-        let alone : (eqb one.at r && eqb one.shared 0) ≡ true = sym (ap (λ (s : Bool). (eqb one.at r && eqb one.shared 0) || s) (not_there one.at r cells c.0 (omega arith)) ∙ or_false (eqb one.at r && eqb one.shared 0)) ∙ h in
-        (one, (cells, ap (λ (t : Bool). cond t (one ∷ cells) (cells_at r cells)) t, eqb-true _ _ (and_parts (eqb one.at r) (eqb one.shared 0) alone).1, at-is))
+          let at-is : one.at ≡ r = eqb-true _ _ t in
+          let alone : (eqb one.at r && eqb one.shared 0) ≡ true = sym (ap (λ (s : Bool). (eqb one.at r && eqb one.shared 0) || s) (not_there one.at r cells c.0 (omega arith)) ∙ or_false (eqb one.at r && eqb one.shared 0)) ∙ h in
+          (one, (cells, ap (λ (t : Bool). cond t (one ∷ cells) (cells_at r cells)) t, eqb-true _ _ (and_parts (eqb one.at r) (eqb one.shared 0) alone).1, at-is))
       | inr f ↦
-        let later : is_restart cells r ≡ true = sym (ap (λ (t : Bool). (t && eqb one.shared 0) || is_restart cells r) f) ∙ h in
-        let inner = restart_at cells r c.1 later in
-        (inner.0, (inner.1.0, ap (λ (t : Bool). cond t (one ∷ cells) (cells_at r cells)) f ∙ inner.1.1, inner.1.2, inner.1.3))
+          let later : is_restart cells r ≡ true = sym (ap (λ (t : Bool). (t && eqb one.shared 0) || is_restart cells r) f) ∙ h in
+          let inner = restart_at cells r c.1 later in
+          (inner.0, (inner.1.0, ap (λ (t : Bool). cond t (one ∷ cells) (cells_at r cells)) f ∙ inner.1.1, inner.1.2, inner.1.3))
     ]
 
 -- the key of an entry that shares nothing stands in it whole

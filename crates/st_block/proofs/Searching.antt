@@ -59,12 +59,12 @@ module _ (kind : BlockKind) (text : List ℕ) (layout : Layout) (lies : IsLayout
       subst (λ (k : ℕ). IsStart kind text layout key number k) e (record {
         restart = subst (λ (k : ℕ). is_restart cells k ≡ true) (sym e) there;
         before = inr (λ cell rest first.
-          let r = restart_at cells at (laid_rising (take layout.end text) [] 0 cells lie) (subst (λ (k : ℕ). is_restart cells k ≡ true) (sym e) there) in
-          let f = first_at (take layout.end text) [] 0 cells lie at cell rest first in
-          let both : r.0 ∷ r.1.0 ≡ cell ∷ rest = sym r.1.1 ∙ first in
-          let same : r.0 ≡ cell = cc in
-          let none : cell.shared ≡ 0 = ap (λ (c : Cell). c.shared) (sym same) ∙ r.1.2 in
-          ap (is_key_before key number) (sym (key_is f.before cell f.next f.there none)) ∙ yes');
+            let r = restart_at cells at (laid_rising (take layout.end text) [] 0 cells lie) (subst (λ (k : ℕ). is_restart cells k ≡ true) (sym e) there) in
+            let f = first_at (take layout.end text) [] 0 cells lie at cell rest first in
+            let both : r.0 ∷ r.1.0 ≡ cell ∷ rest = sym r.1.1 ∙ first in
+            let same : r.0 ≡ cell = cc in
+            let none : cell.shared ≡ 0 = ap (λ (c : Cell). c.shared) (sym same) ∙ r.1.2 in
+            ap (is_key_before key number) (sym (key_is f.before cell f.next f.there none)) ∙ yes');
       })
 
 -- ---- keys before a place
@@ -106,15 +106,15 @@ chains one other key number h g =
     let b = user_key other in
     elim (parts (bytes_cmp a b) (packed other) (packed one) h) [
       | inl up ↦ elim (parts (bytes_cmp b key) number (packed other / 256) g) [
-          | inl more ↦ by_first (bytes_cmp a key) number (packed one / 256) (nat_list_cmp_total.trans a b key up more)
-          | inr same ↦ by_first (bytes_cmp a key) number (packed one / 256) (sym (alike_right nat_list_cmp_total b key a same.0) ∙ up)
-        ]
+        | inl more ↦ by_first (bytes_cmp a key) number (packed one / 256) (nat_list_cmp_total.trans a b key up more)
+        | inr same ↦ by_first (bytes_cmp a key) number (packed one / 256) (sym (alike_right nat_list_cmp_total b key a same.0) ∙ up)
+      ]
       | inr tied ↦
-        let moved = nat_list_cmp_total.congr a b key tied.0 in
-        elim (parts (bytes_cmp b key) number (packed other / 256) g) [
-          | inl more ↦ by_first (bytes_cmp a key) number (packed one / 256) (moved ∙ more)
-          | inr same ↦ by_second (bytes_cmp a key) number (packed one / 256) (moved ∙ same.0) (omega arith)
-        ]
+          let moved = nat_list_cmp_total.congr a b key tied.0 in
+          elim (parts (bytes_cmp b key) number (packed other / 256) g) [
+            | inl more ↦ by_first (bytes_cmp a key) number (packed one / 256) (moved ∙ more)
+            | inr same ↦ by_second (bytes_cmp a key) number (packed one / 256) (moved ∙ same.0) (omega arith)
+          ]
     ]
 
 rest_rises : (one : Cell) (cells : List Cell) → rises_behind key_lt one cells ≡ true → rises key_lt cells ≡ true
@@ -128,12 +128,12 @@ comes_first one (other ∷ cells) at cell rest key number h e g =
     let p = and_parts (key_lt one other) (rises_behind key_lt other cells) h in
     elim (cases_Bool (eqb other.at at)) [
       | inl t ↦
-        let both : other ∷ cells ≡ cell ∷ rest = sym (ap (λ (t : Bool). cond t (other ∷ cells) (cells_at at cells)) t) ∙ e in
-        let same : cell ≡ other = cc in
-        chains one.key other.key key number p.0 (subst (λ (c : Cell). is_key_before key number c.key ≡ true) same g)
+          let both : other ∷ cells ≡ cell ∷ rest = sym (ap (λ (t : Bool). cond t (other ∷ cells) (cells_at at cells)) t) ∙ e in
+          let same : cell ≡ other = cc in
+          chains one.key other.key key number p.0 (subst (λ (c : Cell). is_key_before key number c.key ≡ true) same g)
       | inr f ↦
-        let later : cells_at at cells ≡ cell ∷ rest = sym (ap (λ (t : Bool). cond t (other ∷ cells) (cells_at at cells)) f) ∙ e in
-        chains one.key other.key key number p.0 (comes_first other cells at cell rest key number p.1 later g)
+          let later : cells_at at cells ≡ cell ∷ rest = sym (ap (λ (t : Bool). cond t (other ∷ cells) (cells_at at cells)) f) ∙ e in
+          chains one.key other.key key number p.0 (comes_first other cells at cell rest key number p.1 later g)
     ]
 
 pub skips : (cells : List Cell) (at : ℕ) (cell : Cell) (rest : List Cell) (key : List ℕ) (number : ℕ) → rises key_lt cells ≡ true → cells_at at cells ≡ cell ∷ rest → is_key_before key number cell.key ≡ true
@@ -143,10 +143,10 @@ skips (one ∷ cells) at cell rest key number h e g =
     elim (cases_Bool (eqb one.at at)) [
       | inl t ↦ ap (cells_from_place key number) (sym (ap (λ (t : Bool). cond t (one ∷ cells) (cells_at at cells)) t))
       | inr f ↦
-        let later : cells_at at cells ≡ cell ∷ rest = sym (ap (λ (t : Bool). cond t (one ∷ cells) (cells_at at cells)) f) ∙ e in
-        ap (λ (t : Bool). cond t (cells_from_place key number cells) (one ∷ cells)) (comes_first one cells at cell rest key number h later g)
-        ∙ skips cells at cell rest key number (rest_rises one cells h) later g
-        ∙ ap (cells_from_place key number) (sym (ap (λ (t : Bool). cond t (one ∷ cells) (cells_at at cells)) f))
+          let later : cells_at at cells ≡ cell ∷ rest = sym (ap (λ (t : Bool). cond t (one ∷ cells) (cells_at at cells)) f) ∙ e in
+          ap (λ (t : Bool). cond t (cells_from_place key number cells) (one ∷ cells)) (comes_first one cells at cell rest key number h later g)
+          ∙ skips cells at cell rest key number (rest_rises one cells h) later g
+          ∙ ap (cells_from_place key number) (sym (ap (λ (t : Bool). cond t (one ∷ cells) (cells_at at cells)) f))
     ]
 
 -- ---- the walk
@@ -170,8 +170,8 @@ module _ (kind : BlockKind) (text : List ℕ) (layout : Layout) (lies : IsLayout
       elim start.before [
         | inl zero' ↦ ap (cells_from_place key number) (sym (subst (λ (k : ℕ). cells_at k block.cells ≡ block.cells) (sym zero') (at_start (take layout.end text) [] 0 block.cells lie).0))
         | inr first ↦
-          let r = restart_at block.cells at (laid_rising (take layout.end text) [] 0 block.cells lie) start.restart in
-          skips block.cells at r.0 r.1.0 key number order r.1.1 (first r.0 r.1.0 r.1.1)
+            let r = restart_at block.cells at (laid_rising (take layout.end text) [] 0 block.cells lie) start.restart in
+            skips block.cells at r.0 r.1.0 key number order r.1.1 (first r.0 r.1.0 r.1.1)
       ]
 
   pub walks : (at next : ℕ) (scratch value : List ℕ) (cell : Cell) → Takes block at scratch value next cell → is_key_before key number scratch ≡ true
@@ -184,13 +184,15 @@ module _ (kind : BlockKind) (text : List ℕ) (layout : Layout) (lies : IsLayout
       → cells_from_place key number block.cells ≡ cells_from_place key number (cells_at at block.cells) → (at ≡ lower_place block key number) × Stands block at scratch
   stops at next old scratch value cell stands takes before so_far =
       let from : cells_from_place key number block.cells ≡ cell ∷ cells_at next block.cells =
-        so_far ∙ ap (cells_from_place key number) takes.first
-        ∙ ap (λ (t : Bool). cond t (cells_from_place key number (cells_at next block.cells)) (cell ∷ cells_at next block.cells)) (ap (is_key_before key number) takes.key_is ∙ before) in
-      let place : cell.at ≡ at = sym (ap (place_of layout.end) takes.first) ∙ stands.place in
-      (sym (ap (place_of layout.end) from ∙ place), record {
-        place = stands.place;
-        primes = subst (Primes scratch) (sym takes.first) (subst (λ (k : List ℕ). (cell.shared ≤ length k) × (take cell.shared k ≡ take cell.shared cell.key)) takes.key_is (takes.shared, refl));
-      })
+      so_far ∙ ap (cells_from_place key number) takes.first
+      ∙ ap (λ (t : Bool). cond t (cells_from_place key number (cells_at next block.cells)) (cell ∷ cells_at next block.cells)) (ap (is_key_before key number) takes.key_is ∙ before) in
+      let place : cell.at ≡ at = sym (ap (place_of layout.end) takes.first) ∙ stands.place in (
+        sym (ap (place_of layout.end) from ∙ place),
+        record {
+          place = stands.place;
+          primes = subst (Primes scratch) (sym takes.first) (subst (λ (k : List ℕ). (cell.shared ≤ length k) × (take cell.shared k ≡ take cell.shared cell.key)) takes.key_is (takes.shared, refl));
+        },
+      )
 
   pub ends : (at : ℕ) (old : List ℕ) → Stands block at old → cells_at at block.cells ≡ [] → cells_from_place key number block.cells ≡ cells_from_place key number (cells_at at block.cells) → at ≡ lower_place block key number
   ends at old stands none so_far =
@@ -198,11 +200,13 @@ module _ (kind : BlockKind) (text : List ℕ) (layout : Layout) (lies : IsLayout
 
   pub empty : (scratch : List ℕ) → layout.entries ≡ 0 → (layout.end ≡ lower_place block key number) × Stands block layout.end scratch
   empty scratch none =
-      let nil : block.cells ≡ [] = nil_from_length block.cells (lies.count ∙ none) in
-      (sym (ap (λ (l : List Cell). place_of layout.end (cells_from_place key number l)) nil), record {
-        place = ap (λ (l : List Cell). place_of layout.end (cells_at layout.end l)) nil;
-        primes = subst (λ (l : List Cell). Primes scratch (cells_at layout.end l)) (sym nil) tt;
-      })
+      let nil : block.cells ≡ [] = nil_from_length block.cells (lies.count ∙ none) in (
+        sym (ap (λ (l : List Cell). place_of layout.end (cells_from_place key number l)) nil),
+        record {
+          place = ap (λ (l : List Cell). place_of layout.end (cells_at layout.end l)) nil;
+          primes = subst (λ (l : List Cell). Primes scratch (cells_at layout.end l)) (sym nil) tt;
+        },
+      )
 
 -- a reader may begin with the first entry
 pub from_start : (kind : BlockKind) (text : List ℕ) (layout : Layout) → IsLayout kind text layout (cells_in kind (take layout.end text))
@@ -211,11 +215,13 @@ from_start kind text layout lies =
     let cells = cells_in kind (take layout.end text) in
     let lie = entries_laid kind (take layout.end text) cells lies.area in
     let s = at_start (take layout.end text) [] 0 cells lie in
-    let end : length (take layout.end text) ≡ layout.end = omega (arith, length-take layout.end text, lies.room) in
-    (s.0, λ key. record {
-      place = ap (place_of layout.end) s.0 ∙ subst (λ (k : ℕ). place_of k cells ≡ 0) end s.1;
-      primes = subst (Primes key) (sym s.0) (bare key cells (primes_of (take layout.end text) [] 0 cells lie));
-    })
+    let end : length (take layout.end text) ≡ layout.end = omega (arith, length-take layout.end text, lies.room) in (
+      s.0,
+      λ key. record {
+        place = ap (place_of layout.end) s.0 ∙ subst (λ (k : ℕ). place_of k cells ≡ 0) end s.1;
+        primes = subst (Primes key) (sym s.0) (bare key cells (primes_of (take layout.end text) [] 0 cells lie));
+      },
+    )
   where
     bare : (key : List ℕ) (l : List Cell) → Primes [] l → Primes key l
     bare key [] p = tt

@@ -39,9 +39,9 @@ module _ (kind : BlockKind) (text area : List ℕ) (tail : Tail) (before : List 
       let k : length area - entries ≡ suc (length area - (entries + 1)) = omega (arith, read.moved) in
       record {
         so_far = read.so_far
-          ∙ ap (λ (n : ℕ). with_front front (cells_from n kind area before at)) k
-          ∙ ap (with_front front) (cells_more (length area - (entries + 1)) kind area before at lt ∙ ap (λ (r : Result (Cell × ℕ) BlockFault). found_then r (λ found. cells_from (length area - (entries + 1)) kind area found.0.key found.1)) e)
-          ∙ regroup front cell (cells_from (length area - (entries + 1)) kind area cell.key next);
+            ∙ ap (λ (n : ℕ). with_front front (cells_from n kind area before at)) k
+            ∙ ap (with_front front) (cells_more (length area - (entries + 1)) kind area before at lt ∙ ap (λ (r : Result (Cell × ℕ) BlockFault). found_then r (λ found. cells_from (length area - (entries + 1)) kind area found.0.key found.1)) e)
+            ∙ regroup front cell (cells_from (length area - (entries + 1)) kind area cell.key next);
         count = omega (arith, length-append front (cell ∷ []), read.count);
         moved = omega (arith, read.moved);
         inside = in';

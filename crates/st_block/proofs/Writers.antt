@@ -20,10 +20,10 @@ front_kept (x ∷ xs) [] = refl
 front_kept (x ∷ xs) (y ∷ ys) =
     elim (cases_Bool (eqb x y)) [
       | inl t ↦
-        let n = common_prefix_len nat_eq xs ys in
-        ap (λ (b : Bool). take (cond b (1 + n) 0) (x ∷ xs) ++ drop (cond b (1 + n) 0) (y ∷ ys)) t
-        ∙ ap (λ (k : ℕ). take k (x ∷ xs) ++ drop k (y ∷ ys)) (let k : 1 + n ≡ suc n = omega arith in k)
-        ∙ ap (λ (z : ℕ). z ∷ (take n xs ++ drop n ys)) (eqb-true x y t) ∙ ap (λ (l : List ℕ). y ∷ l) (front_kept xs ys)
+          let n = common_prefix_len nat_eq xs ys in
+          ap (λ (b : Bool). take (cond b (1 + n) 0) (x ∷ xs) ++ drop (cond b (1 + n) 0) (y ∷ ys)) t
+          ∙ ap (λ (k : ℕ). take k (x ∷ xs) ++ drop k (y ∷ ys)) (let k : 1 + n ≡ suc n = omega arith in k)
+          ∙ ap (λ (z : ℕ). z ∷ (take n xs ++ drop n ys)) (eqb-true x y t) ∙ ap (λ (l : List ℕ). y ∷ l) (front_kept xs ys)
       | inr f ↦ ap (λ (b : Bool). take (cond b (1 + common_prefix_len nat_eq xs ys) 0) (x ∷ xs) ++ drop (cond b (1 + common_prefix_len nat_eq xs ys) 0) (y ∷ ys)) f
     ]
 
@@ -70,14 +70,14 @@ holds_more writing pairs key value h =
     record {
       count = omega (arith, length-append pairs ((key, value) ∷ []), h.count);
       entries = ap (λ (l : List ℕ). l ++ entry_bytes (shared_of writing.interval writing.count writing.last key) key value) h.entries
-        ∙ ap (λ (k : ℕ). entries_bytes writing.interval 0 [] pairs ++ entry_bytes (shared_of writing.interval k writing.last key) key value) n
-        ∙ ap (λ (l : List ℕ). entries_bytes writing.interval 0 [] pairs ++ entry_bytes (shared_of writing.interval (0 + length pairs) l key) key value) h.last
-        ∙ sym (entries_more writing.interval 0 [] pairs (key, value));
+          ∙ ap (λ (k : ℕ). entries_bytes writing.interval 0 [] pairs ++ entry_bytes (shared_of writing.interval k writing.last key) key value) n
+          ∙ ap (λ (l : List ℕ). entries_bytes writing.interval 0 [] pairs ++ entry_bytes (shared_of writing.interval (0 + length pairs) l key) key value) h.last
+          ∙ sym (entries_more writing.interval 0 [] pairs (key, value));
       restarts = ap (λ (l : List ℕ). l ++ cond (eqb (writing.count % writing.interval) 0) (length writing.entries ∷ []) []) h.restarts
-        ∙ ap (λ (k : ℕ). restarts_of writing.interval 0 0 [] pairs ++ cond (eqb (k % writing.interval) 0) (length writing.entries ∷ []) []) n
-        ∙ ap (λ (l : List ℕ). restarts_of writing.interval 0 0 [] pairs ++ cond (eqb ((0 + length pairs) % writing.interval) 0) (length l ∷ []) []) h.entries
-        ∙ ap (λ (k : ℕ). restarts_of writing.interval 0 0 [] pairs ++ cond (eqb ((0 + length pairs) % writing.interval) 0) (k ∷ []) []) (let k : length (entries_bytes writing.interval 0 [] pairs) ≡ 0 + length (entries_bytes writing.interval 0 [] pairs) = omega arith in k)
-        ∙ sym (restarts_more writing.interval 0 0 [] pairs (key, value));
+          ∙ ap (λ (k : ℕ). restarts_of writing.interval 0 0 [] pairs ++ cond (eqb (k % writing.interval) 0) (length writing.entries ∷ []) []) n
+          ∙ ap (λ (l : List ℕ). restarts_of writing.interval 0 0 [] pairs ++ cond (eqb ((0 + length pairs) % writing.interval) 0) (length l ∷ []) []) h.entries
+          ∙ ap (λ (k : ℕ). restarts_of writing.interval 0 0 [] pairs ++ cond (eqb ((0 + length pairs) % writing.interval) 0) (k ∷ []) []) (let k : length (entries_bytes writing.interval 0 [] pairs) ≡ 0 + length (entries_bytes writing.interval 0 [] pairs) = omega arith in k)
+          ∙ sym (restarts_more writing.interval 0 0 [] pairs (key, value));
       last = sym (last_more [] pairs (key, value));
     }
 

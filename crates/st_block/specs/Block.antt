@@ -42,13 +42,15 @@ fits area before head =
 
 -- what an entry with this head is, and the place behind it
 abbrev pub laid : List ℕ → List ℕ → ℕ → Head → Cell × ℕ
-laid area before at head =
-    (record {
-      at = at;
-      shared = head.shared;
-      key = take head.shared before ++ slice_range area head.behind (head.behind + head.unshared);
-      value = slice_range area (head.behind + head.unshared) (head.behind + head.unshared + head.value);
-    }, head.behind + head.unshared + head.value)
+laid area before at head = (
+  record {
+    at = at;
+    shared = head.shared;
+    key = take head.shared before ++ slice_range area head.behind (head.behind + head.unshared);
+    value = slice_range area (head.behind + head.unshared) (head.behind + head.unshared + head.value);
+  },
+  head.behind + head.unshared + head.value,
+)
 
 -- the entry at a place behind a key, and the place behind it
 unfoldable pub cell_at : List ℕ → List ℕ → ℕ → Option (Cell × ℕ)

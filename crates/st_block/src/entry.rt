@@ -64,7 +64,11 @@ pub(crate) fn head_behind(area: &[u8], before: &[u8], at: usize) -> Option<Head>
     ensures none { IfNone result (cell_at area.now before.now at ≡ None) }
 {
     let head = head_at(area, at)?;
-    if fits(area, before, head) { Some(head) } else { None }
+    if fits(area, before, head) {
+        Some(head)
+    } else {
+        None
+    }
 }
 
 // The entry at the place, behind the key in the scratch; its key is put into the scratch. None, and the scratch is left

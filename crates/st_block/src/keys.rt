@@ -40,11 +40,21 @@ fn byte_at(before: &[u8], shared: usize, others: &[u8], place: usize) -> u8
         return before[place];
     }
     let behind = place - shared;
-    if behind < others.len() { others[behind] } else { 0 }
+    if behind < others.len() {
+        others[behind]
+    } else {
+        0
+    }
 }
 
 // How the front of the key before compares with a front of the key that shares some of it.
-fn cmp_fronts(before: &[u8], front: usize, shared: usize, others: &[u8], new_front: usize) -> Ordering
+fn cmp_fronts(
+    before: &[u8],
+    front: usize,
+    shared: usize,
+    others: &[u8],
+    new_front: usize,
+) -> Ordering
     requires old { front ≤ length before.now }
     requires shared { shared ≤ length before.now }
     requires new { new_front ≤ shared + length others.now }

@@ -8,6 +8,8 @@ mod kind;
 mod laws;
 mod open;
 mod tail;
+#[cfg(test)]
+mod tests;
 mod walk;
 mod writer;
 

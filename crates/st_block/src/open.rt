@@ -25,7 +25,12 @@ pub(crate) struct Layout {
 }
 
 // The entry at the place behind the key in the scratch, tested by its kind of block; its key is put into the scratch.
-fn next_cell(area: &[u8], kind: BlockKind, at: usize, scratch: &mut Scratch) -> Result<Read, BlockFault>
+fn next_cell(
+    area: &[u8],
+    kind: BlockKind,
+    at: usize,
+    scratch: &mut Scratch,
+) -> Result<Read, BlockFault>
     requires { at ≢ 0 → IsTrue (is_long kind scratch.old) }
     ensures ok { IfOk result (λ read. (next_cell kind area.now scratch.old at ≡ Ok (cell_of area.now at scratch.new read, read.next)) × IsRead (length area.now) at read × IsTrue (is_long kind scratch.new)) }
     ensures err { IfErr result (λ fault. next_cell kind area.now scratch.old at ≡ Err fault) }
@@ -64,7 +69,12 @@ fn met_by(text: &[u8], tail: Tail, met: usize, at: usize, shared: usize) -> usiz
 }
 
 // The entries before the tail, tested one after the other.
-fn test_entries(text: &[u8], tail: Tail, kind: BlockKind, scratch: &mut Scratch) -> Result<Found, BlockFault>
+fn test_entries(
+    text: &[u8],
+    tail: Tail,
+    kind: BlockKind,
+    scratch: &mut Scratch,
+) -> Result<Found, BlockFault>
     requires { tail.end + 4 * tail.count ≤ length text.now }
     ensures ok { IfOk result (λ found. ((cells : List Cell) × IsTested kind text.now (take tail.end text.now) tail found cells)) }
     ensures err { IfErr result (λ fault. entries_of kind (take tail.end text.now) ≡ Err fault) }
@@ -96,11 +106,19 @@ fn restarts_fit(kind: BlockKind, tail: Tail, found: Found) -> Result<(), BlockFa
             BlockKind::Index | BlockKind::Plain => Err(BlockFault::Restarts),
         };
     }
-    if found.met == tail.count { Ok(()) } else { Err(BlockFault::Restarts) }
+    if found.met == tail.count {
+        Ok(())
+    } else {
+        Err(BlockFault::Restarts)
+    }
 }
 
 /// How the block lies in its bytes, or its first fault.
-pub(crate) fn layout_of(text: &[u8], kind: BlockKind, scratch: &mut Scratch) -> Result<Layout, BlockFault>
+pub(crate) fn layout_of(
+    text: &[u8],
+    kind: BlockKind,
+    scratch: &mut Scratch,
+) -> Result<Layout, BlockFault>
     ensures ok { IfOk result (λ layout. ((cells : List Cell) × IsLayout kind text.now layout cells)) }
     ensures err { IfErr result (λ fault. block_of kind text.now ≡ Err fault) }
 {

@@ -13,7 +13,13 @@ use crate::tail::offset_at;
 use st_base::Scratch;
 
 /// The entry at the place, or none at the end. Its key is put into the scratch.
-pub(crate) fn read_in(text: &[u8], kind: BlockKind, layout: Layout, at: usize, scratch: &mut Scratch) -> Option<Read>
+pub(crate) fn read_in(
+    text: &[u8],
+    kind: BlockKind,
+    layout: Layout,
+    at: usize,
+    scratch: &mut Scratch,
+) -> Option<Read>
     requires lies { IsLayout kind text.now layout (cells_in kind (take layout.end text.now)) }
     requires stands { Stands (contents_in kind text.now layout) at scratch.old }
     ensures found { IfSome result (λ read. ((cell : Cell) × Takes (contents_in kind text.now layout) at scratch.new (slice_range (take layout.end text.now) read.value read.next) read.next cell) × IsRead (length (take layout.end text.now)) at read) }
@@ -62,7 +68,14 @@ fn start_of(text: &[u8], kind: BlockKind, layout: Layout, key: &[u8], number: u6
 
 /// The place of the first entry that doesn't come before the key and the number, or the end. Its key is put into the
 /// scratch.
-pub(crate) fn lower_in(text: &[u8], kind: BlockKind, layout: Layout, key: &[u8], number: u64, scratch: &mut Scratch) -> usize
+pub(crate) fn lower_in(
+    text: &[u8],
+    kind: BlockKind,
+    layout: Layout,
+    key: &[u8],
+    number: u64,
+    scratch: &mut Scratch,
+) -> usize
     requires lies { IsLayout kind text.now layout (cells_in kind (take layout.end text.now)) }
     requires order { IsTrue (keys_rise (cells_in kind (take layout.end text.now))) }
     ensures value { result ≡ lower_place (contents_in kind text.now layout) key.now number }

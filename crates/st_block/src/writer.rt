@@ -74,7 +74,12 @@ fn shared_with(before: &[u8], key: &[u8], count: usize, interval: usize) -> usiz
 }
 
 // Puts a restart at the end where one is due.
-fn push_restart(restarts: &mut List<u32>, at: usize, count: usize, interval: usize) -> Result<(), AllocError>
+fn push_restart(
+    restarts: &mut List<u32>,
+    at: usize,
+    count: usize,
+    interval: usize,
+) -> Result<(), AllocError>
     requires interval { 0 < interval }
     requires at { at < 2 ^ 32 }
     ensures ok { OnOk result (restarts.new ≡ restarts.old ++ (if count % interval == 0 then at ∷ [] else [])) }
@@ -135,7 +140,12 @@ impl BlockWriter {
     {
         let shared = shared_with(self.last.as_slice(), key, self.count, self.interval);
         let restarts = self.restarts.len();
-        push_restart(&mut self.restarts, self.entries.len(), self.count, self.interval)?;
+        push_restart(
+            &mut self.restarts,
+            self.entries.len(),
+            self.count,
+            self.interval,
+        )?;
         if let Err(error) = push_entry(&mut self.entries, shared, key, value) {
             self.restarts.truncate(restarts);
             return Err(error);

@@ -7,7 +7,7 @@ invariant-loop-read l =
     let block = contents_in l.kind l.text l.layout in
     record {
       stands : Stands block l.at l.scratch;
-      place : cells_from_place l.key l.number block.cells ≡ cells_from_place l.key l.number (cells_at l.at block.cells)
+      place : cells_from_place l.key l.number block.cells ≡ cells_from_place l.key l.number (cells_at l.at block.cells);
     }
 
 abbrev pub decreases-loop-read : goal.decreases-loop-read

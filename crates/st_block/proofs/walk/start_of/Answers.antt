@@ -16,5 +16,5 @@ loop-low-preserved-then-is_key_before c =
       within = omega arith;
       top = c.loop-low.invariant.top;
       start = start_more c.args.kind c.args.text.now c.args.layout c.requires.lies c.requires.some c.args.key.now c.args.number (c.loop-low.low + (c.loop-low.high - c.loop-low.low) / 2)
-        c.offset_at-at.result c.restart_key.result.now (omega (arith, c.loop-low.invariant.top)) c.offset_at-at.ensures c.restart_key.ensures (sym c.if-is_key_before.ensures);
+          c.offset_at-at.result c.restart_key.result.now (omega (arith, c.loop-low.invariant.top)) c.offset_at-at.ensures c.restart_key.ensures (sym c.if-is_key_before.ensures);
     }

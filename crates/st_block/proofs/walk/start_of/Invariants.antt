@@ -7,7 +7,7 @@ abbrev pub invariant-loop-low : goal.invariant-loop-low
 invariant-loop-low l = record {
   within : l.low < l.high;
   top : l.high ≤ l.layout.restarts;
-  start : IsStart l.fn.kind l.text l.layout l.key l.number (from_le_bytes w32 (drop (l.layout.end + 4 * l.low) l.text))
+  start : IsStart l.fn.kind l.text l.layout l.key l.number (from_le_bytes w32 (drop (l.layout.end + 4 * l.low) l.text));
 }
 
 abbrev pub decreases-loop-low : goal.decreases-loop-low

@@ -7,7 +7,7 @@ abbrev pub invariant-loop-place : goal.invariant-loop-place
 invariant-loop-place l = record {
   one_in : l.place ≤ length l.one;
   other_in : l.place ≤ length l.other;
-  alike : common_prefix_len nat_eq l.one l.other ≡ l.place + common_prefix_len nat_eq (drop l.place l.one) (drop l.place l.other)
+  alike : common_prefix_len nat_eq l.one l.other ≡ l.place + common_prefix_len nat_eq (drop l.place l.one) (drop l.place l.other);
 }
 
 abbrev pub decreases-loop-place : goal.decreases-loop-place
