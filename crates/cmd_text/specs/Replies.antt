@@ -7,7 +7,7 @@ use Rattle.st_base.specs.declared.fault.MakeFault.TheVariants.{Limit}
 use Rattle.st_base.specs.declared.fault.MakeFault.TheVariants as make
 use Rattle.st_model.specs.Line.{refusal_words, reply_words}
 use Rattle.st_model.specs.declared.refusal.Refusal.{Refusal}
-use Rattle.st_model.specs.declared.refusal.Refusal.TheVariants.{Stopped, UnknownFamily, NumbersSpent, StoreFull, DiskFault, OutOfMemory}
+use Rattle.st_model.specs.declared.refusal.Refusal.TheVariants.{UnknownFamily, OutOfMemory}
 use Rattle.st_model.specs.declared.reply.Reply.{Reply}
 use Rattle.st_model.specs.declared.reply.Reply.TheVariants.{Written, Found, Nothing, Refused}
 use Rattle.cmd_text.specs.declared.fault.LineFault.{LineFault}

@@ -113,7 +113,8 @@ pub fn push_reply(out: &mut Bytes, place: u64, reply: &Reply) -> Result<(), Allo
     out.push(b'\n')
 }
 
-/// The line of a place and its reply, line feed included.
+/// The line of a place and its reply, line feed included: the place, then the reply's words, each behind a space.
+/// Bytes are spelled as one word; want of memory, as a refusal, has no printed form of its own.
 pub fn print_reply(alloc: Global, place: u64, reply: &Reply) -> Result<Bytes, AllocError>
     ensures { IfOk result (λ line. line ≡ line_of place reply.now) }
 {

@@ -167,7 +167,7 @@ fn read_candidate(alloc: Global, line: &[u8]) -> Result<(u64, Reply), LineFault>
 }
 
 /// Reads a line of a transcript, line feed included: a place and its reply. `NotAReply` comes exactly where no place
-/// and reply print as the line.
+/// and reply print as the line; `OutOfMemory` may come for any line.
 pub fn read_reply(alloc: Global, line: &[u8]) -> Result<(u64, Reply), LineFault>
     ensures printed { IfOk result (λ found. line.now ≡ line_of found.0 found.1) }
     ensures only { IfOk result (λ found. (place : ℕ) (reply : Reply) → place < 2 ^ 64 → IsPrinted reply

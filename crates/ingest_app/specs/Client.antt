@@ -1,6 +1,7 @@
 -- One client: its file, and its transcript.
 use Rattle.std.specs.Prelude.{ℕ, ◌≡◌, nat_lt, length, List, [], ◌∷◌, ◌++◌, map, flat_map, false, codes, if◌then◌else◌}
 use Rattle.std.specs.Prelude.{Option, Some, None, Result, Ok, Err}
+use Rattle.std.specs.List.{AllByRecursion as Each}
 use Rattle.cmd_text.specs.declared.script.Numbered.{Numbered}
 use Rattle.cmd_text.specs.Script.{script_of}
 use Rattle.st_model.specs.declared.command.Call.{Call}
@@ -8,6 +9,7 @@ use Rattle.st_model.specs.Asked.{asked_of}
 use Rattle.st_model.specs.Legal.{IsLegal}
 use Rattle.st_model.specs.Line.{line_of}
 use Rattle.st_model.specs.State.{new_store}
+use Rattle.ingest_app.specs.Op.{refused_family, stranger_of}
 
 -- the greatest length of a client file
 abbrev pub most_file_bytes : ℕ
@@ -31,4 +33,6 @@ pub record Answers (name : List ℕ) (commands : List Numbered) (text : List ℕ
   pub calls : List Call
   pub asked : map (λ call. call.asked) calls ≡ map (λ numbered. asked_of numbered.command) commands
   pub legal : IsLegal new_store capacity (calls ∷ []) 0 false
+  -- the refusal of an unknown family comes exactly where a command names a family other than `default`: the first such
+  pub unknown : Each (λ call. refused_family call.reply ≡ stranger_of call.asked.command) calls
   pub printed : text ≡ transcript name calls

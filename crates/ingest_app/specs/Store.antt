@@ -11,6 +11,7 @@ use Rattle.st_model.specs.Asked.{asked_of}
 use Rattle.st_model.specs.Line.{line_of}
 use Rattle.st_model.specs.Legal.{IsStep, after}
 use Rattle.st_model.specs.Read.{read}
+use Rattle.ingest_app.specs.Op.{refused_family, stranger_of}
 use Rattle.ingest_app.specs.declared.store.Answer.{Answer}
 use Rattle.ingest_app.specs.declared.store.Store.{Store}
 
@@ -35,6 +36,8 @@ call_of command answer = record { asked = asked_of command; place = answer.place
 -- the answer is the model's at the state, and the store then stands for the state after it
 pub record Steps (store : Store) (state : ModelState) (capacity : ℕ) (command : Command) (answer : Answer) : Type 0 where
   pub step : IsStep state capacity (call_of command answer)
+  -- a family that isn't there is refused, the first that the command names, and no other refusal names one
+  pub unknown : refused_family answer.reply ≡ stranger_of command
   pub stands : Stands store (after state (call_of command answer))
 
 -- the store has answered the command, and the line of the answer stands behind the text

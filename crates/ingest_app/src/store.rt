@@ -10,7 +10,7 @@ ghost use Rattle.st_model.specs.Apply.{op_family, op_key, op_mark, write_charge}
 ghost use Rattle.st_model.specs.Answer.{unknown_families, write_refusals, first_or, get_answer, write_answer};
 ghost use Rattle.st_model.specs.Legal.{is_stop};
 ghost use Rattle.st_model.specs.State.{new_store};
-ghost use Rattle.ingest_app.specs.Op.{values_after, values_after_all, strangers};
+ghost use Rattle.ingest_app.specs.Op.{values_after, values_after_all, strange_names, strangers, refused_name, refused_family};
 
 use st_base::{Family, Key, Value};
 use st_model::{Batch, Command, Op, Refusal, Reply};
@@ -144,6 +144,7 @@ impl Store {
     // The first refusal that holds of a write.
     fn first_refusal(&self, ops: &[Op]) -> Result<Option<Refusal>, AllocError>
         ensures no_stop { IfOk result (λ refusal. IfSome refusal (λ refusal. IsFalse (is_stop (Reply.Refused refusal)))) }
+        ensures stranger { IfOk result (λ refusal. IfSome refusal (λ refusal. refused_name refusal ≡ slice_get (strangers ops.now) 0)) }
         ensures room { IfOk result (λ refusal. IfNone refusal ((self.now.last + length ops.now ≤ GREATEST_NUMBER) × (self.now.place < GREATEST_NUMBER))) }
         ensures first { IfOk result (λ refusal. (state : ModelState) → Stands self.now state → refusal ≡ slice_get (write_refusals state CAPACITY ops.now) 0) }
     {
@@ -164,7 +165,8 @@ impl Store {
 
     // What the key reads.
     fn get(&self, family: &Family, key: &Key) -> Result<Reply, AllocError>
-        ensures { IfOk result (λ reply. (state : ModelState) → Stands self.now state → reply ≡ get_answer state state.last family.now key.now) }
+        ensures stranger { IfOk result (λ reply. refused_family reply ≡ slice_get (strange_names (family.now ∷ [])) 0) }
+        ensures reply { IfOk result (λ reply. (state : ModelState) → Stands self.now state → reply ≡ get_answer state state.last family.now key.now) }
     {
         if !family.is_default() {
             return Ok(Reply::Refused(Refusal::UnknownFamily(family.clone()?)));

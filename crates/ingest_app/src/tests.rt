@@ -15,11 +15,11 @@ fn words(alloc: Global, text: &str) -> Result<Vec<String>, Fail> {
 }
 
 // One input file, called `one`; the calls of these numbers fail.
-fn inputs(alloc: Global, text: &[u8], failing: &[u64]) -> Result<MemInputs, Fail> {
+fn inputs(alloc: Global, text: &str, failing: &[u64]) -> Result<MemInputs, Fail> {
     let mut files = List::new(alloc);
     files.push(InputFile {
         name: Name::new(alloc, b"one")?,
-        bytes: Bytes::from_slice(alloc, text)?,
+        bytes: Bytes::from_slice(alloc, text.as_bytes())?,
     })?;
     Ok(MemInputs::new(files, List::from_slice(alloc, failing)?))
 }
@@ -28,9 +28,9 @@ fn inputs(alloc: Global, text: &[u8], failing: &[u64]) -> Result<MemInputs, Fail
 fn expect(
     rt: &(impl Abort + AllocGlobal),
     line: &str,
-    text: &[u8],
+    text: &str,
     status: Status,
-    written: &[u8],
+    written: &str,
 ) -> Result<(), Fail> {
     let alloc = rt.alloc();
     let words = words(alloc, line)?;
@@ -38,69 +38,68 @@ fn expect(
     let mut sink = MemSink::new(alloc, List::new(alloc));
     let found = run(alloc, words.as_slice(), &mut inputs, &mut sink);
     assert_eq!(rt; found, status, "{line}");
-    assert!(rt; sink.bytes() == written, "{line}");
+    assert!(rt; sink.bytes() == written.as_bytes(), "{line}");
     Ok(())
 }
 
-const ROW: &[u8] = b"put default a 1\nget default a\ndel default a\nget default a\n";
+const ROW: &str = "put default a 1\nget default a\ndel default a\nget default a\n";
 
-const ANSWERS: &[u8] = b"client one\n1 written 1\n1 value 1\n2 written 2\n2 none\n";
+const ANSWERS: &str = "client one\n1 written 1\n1 value 1\n2 written 2\n2 none\n";
 
 #[test]
 fn rows(rt: HostRuntime) -> Result<(), Fail> {
-    expect(&rt, "run one", ROW, Status::Done, ANSWERS)?;
-    expect(&rt, "run one", b"", Status::Done, b"client one\n")?;
-    expect(
-        &rt,
-        "run one",
-        b"put p k 1\nput default k 1\n",
-        Status::Done,
-        b"client one\n0 refused 11 UnknownFamily p\n1 written 1\n",
-    )?;
-    expect(
-        &rt,
-        "run one",
-        b"put default k 1\nput default k 2\nget default k\nget default l",
-        Status::Done,
-        b"client one\n1 written 1\n2 written 2\n2 value 2\n2 none\n",
-    )?;
-    expect(&rt, "run", ROW, Status::NotYet, b"notyet\n")?;
-    expect(&rt, "run one two", ROW, Status::NotYet, b"notyet\n")?;
-    expect(&rt, "run -one", ROW, Status::NotYet, b"notyet\n")?;
-    expect(&rt, "build", ROW, Status::NotYet, b"notyet\n")?;
-    expect(
-        &rt,
-        "run one",
-        b"gut default k\n",
-        Status::Script,
-        b"script one 1\n",
-    )?;
-    expect(
-        &rt,
-        "run one",
-        b"# a comment\n\nget default k\nget default\n",
-        Status::Script,
-        b"script one 4\n",
-    )?;
-    expect(&rt, "run two", ROW, Status::Script, b"script two 0\n")
+    for (line, text, status, written) in [
+        ("run one", ROW, Status::Done, ANSWERS),
+        ("run one", "", Status::Done, "client one\n"),
+        (
+            "run one",
+            "put p k 1\nput default k 1\n",
+            Status::Done,
+            "client one\n0 refused 11 UnknownFamily p\n1 written 1\n",
+        ),
+        (
+            "run one",
+            "put default k 1\nput default k 2\nget default k\nget default l",
+            Status::Done,
+            "client one\n1 written 1\n2 written 2\n2 value 2\n2 none\n",
+        ),
+        ("run", ROW, Status::NotYet, "notyet\n"),
+        ("run one two", ROW, Status::NotYet, "notyet\n"),
+        ("run -one", ROW, Status::NotYet, "notyet\n"),
+        ("build", ROW, Status::NotYet, "notyet\n"),
+        (
+            "run one",
+            "gut default k\n",
+            Status::Script,
+            "script one 1\n",
+        ),
+        (
+            "run one",
+            "# a comment\n\nget default k\nget default\n",
+            Status::Script,
+            "script one 4\n",
+        ),
+        ("run two", ROW, Status::Script, "script two 0\n"),
+    ] {
+        expect(&rt, line, text, status, written)?;
+    }
+    Ok(())
 }
 
-// Each call of the inputs, and each of the sink, fails in turn.
+// Each call of the inputs fails in turn, and then the sink.
 #[test]
 fn faults(rt: HostRuntime) -> Result<(), Fail> {
-    let alloc = rt.alloc();
-    let words = words(alloc, "run one")?;
-    for call in 1..3 {
-        let mut inputs = inputs(alloc, ROW, &[call])?;
-        let mut sink = MemSink::new(alloc, List::new(alloc));
-        let status = run(alloc, words.as_slice(), &mut inputs, &mut sink);
-        assert_eq!(rt; status, Status::InputFault);
-        assert!(rt; sink.bytes() == b"input one\n".as_slice());
+    let words = words(rt.alloc(), "run one")?;
+    for (input, sink, status, written) in [
+        (1, 0, Status::InputFault, "input one\n"),
+        (2, 0, Status::InputFault, "input one\n"),
+        (0, 1, Status::SinkFault, ""),
+    ] {
+        let mut inputs = inputs(rt.alloc(), ROW, &[input])?;
+        let mut sink = MemSink::new(rt.alloc(), List::from_slice(rt.alloc(), &[sink])?);
+        let found = run(rt.alloc(), words.as_slice(), &mut inputs, &mut sink);
+        assert_eq!(rt; found, status);
+        assert!(rt; sink.bytes() == written.as_bytes());
     }
-    let mut inputs = inputs(alloc, ROW, &[])?;
-    let mut sink = MemSink::new(alloc, List::from_slice(alloc, &[1])?);
-    let status = run(alloc, words.as_slice(), &mut inputs, &mut sink);
-    assert_eq!(rt; status, Status::SinkFault);
-    assert!(rt; ANSWERS.starts_with(sink.bytes()));
     Ok(())
 }

@@ -19,6 +19,8 @@ mod list;
 mod name;
 mod rows;
 mod scratch;
+#[cfg(test)]
+mod tests;
 mod value;
 
 pub use entry::{Entries, Entry, KeyRange, Mark};

@@ -22,6 +22,5 @@ pub use disk::{Disk, FilesFault};
 pub use folder_disk::FolderDisk;
 pub use laws::{write_durably, write_unsynced};
 pub use mem_disk::MemDisk;
-pub use unrecorded_disk::UnrecordedDisk;
-
 pub use st_base::Failed;
+pub use unrecorded_disk::UnrecordedDisk;

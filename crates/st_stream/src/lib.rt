@@ -21,10 +21,9 @@ pub use mem_inputs::{InputFile, MemInputs};
 pub use mem_sink::MemSink;
 pub use reading::{FileRead, ReadFault, read_file};
 pub use sink::Sink;
+pub use st_base::Failed;
 pub use std_sink::StdSink;
 pub use writing::write_all;
-
-pub use st_base::Failed;
 
 #[cfg(test)]
 mod tests;

@@ -1,4 +1,4 @@
-use Rattle.std.proofs.Common.{◌≡◌, ◌++◌, rules}
+use Rattle.std.proofs.Common.{rules}
 use Rattle.cmd_text.proofs.Printing.{unknown_family}
 use Rattle.cmd_text.proofs.print.push_refusal.Goals as goal
 

@@ -1,4 +1,4 @@
-use Rattle.std.proofs.Common.{◌≡◌, ◌<◌, length, arith, rules, sym}
+use Rattle.std.proofs.Common.{◌≡◌, ◌<◌, length, rules}
 use Rattle.std.proofs.lemmas.Bool.{false≢true}
 use Rattle.cmd_text.proofs.Spelling.{remains_less, remains_some, remains_none, spelled}
 use Rattle.cmd_text.proofs.replies.read_bytes.Goals as goal

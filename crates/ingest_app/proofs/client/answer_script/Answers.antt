@@ -5,9 +5,11 @@ use Rattle.st_model.specs.declared.command.Call.{Call}
 use Rattle.st_model.specs.Asked.{asked_of}
 use Rattle.st_model.specs.Legal.{after}
 use Rattle.st_model.specs.State.{new_store}
+use Rattle.st_model.proofs.Places.{Each-append}
 use Rattle.st_model.proofs.Grow.{SoFar, so_far_grows}
 use Rattle.cmd_text.specs.declared.script.Numbered.{Numbered}
 use Rattle.ingest_app.specs.Client.{capacity}
+use Rattle.ingest_app.specs.Op.{refused_family, stranger_of}
 use Rattle.ingest_app.specs.Store.{call_of, Steps, Prints}
 use Rattle.ingest_app.proofs.Printed.{transcript_grows}
 use Rattle.ingest_app.proofs.client.answer_script.Goals as goal
@@ -28,5 +30,6 @@ loop-numbered-preserved c =
       stands = steps.stands;
       so_far = subst (λ asks. SoFar new_store capacity (old.calls ++ call ∷ []) (after old.state call) asks) taken
           (so_far_grows new_store capacity old.calls call old.state (map asked c.loop-numbered.yielded) old.so_far steps.step);
+      unknown = Each-append (λ (d : Call). refused_family d.reply ≡ stranger_of d.asked.command) old.calls (call ∷ []) old.unknown (steps.unknown, tt);
       printed = transcript_grows c.args.name.now old.calls call c.answer_command.new.text c.loop-numbered.text old.printed more.printed;
     }

@@ -24,10 +24,10 @@ returns-in_ok-reply-in-Get c = λ state h.
     let key = c.in-Get.key in
     let answer : Answer = record { place = c.args.self.now.place; reply = c.in_ok-reply-in-Get.reply } in
     let call : Call = call_of (Get family key) answer in
-    let is = c.in_ok-reply-in-Get.ensures state h in
+    let is = c.in_ok-reply-in-Get.ensures.reply state h in
     let read = read_is (filter (λ name. not (has_family state name)) (family ∷ [])) (read_in state state.last family key) in
     let change : is_change call.reply ≡ false = ap is_change is ∙ read.0 in
     let stop : is_stop call.reply ≡ false = ap is_stop is ∙ read.1 in
     let step : IsStep state CAPACITY call × (after state call ≡ state) = stays state CAPACITY call change stop (sym h.place) is in
     subst (λ (command : Command). Steps c.args.self.now state CAPACITY command answer) (sym c.in-Get.is)
-    (record { step = step.0; stands = subst (λ (s : ModelState). Stands c.args.self.now s) (sym step.1) h })
+    (record { step = step.0; unknown = c.in_ok-reply-in-Get.ensures.stranger; stands = subst (λ (s : ModelState). Stands c.args.self.now s) (sym step.1) h })

@@ -28,6 +28,7 @@ returns c = λ state h.
         answered = inl (ap Written last ∙ none_refused (write_refusals state CAPACITY ops) (Written (state.last + length ops)) open_);
         no_stop = refl;
       };
+      unknown = sym (ap (λ names. slice_get names 0) known);
       stands = record {
         family = family_after state.last ops h.family;
         families = ap (with_ops state.last ops) h.families ∙ with_ops_is state.last ops h.family known;
