@@ -13,7 +13,7 @@ fits cell offset = eqb cell.at offset && eqb cell.shared 0
 
 -- ---- what was met is there
 
-more_there : (cell : Cell) (cells : List Cell) (offsets : List ℕ) → list_all (is_restart cells) offsets ≡ true → list_all (is_restart (cell ∷ cells)) offsets ≡ true
+pub more_there : (cell : Cell) (cells : List Cell) (offsets : List ℕ) → list_all (is_restart cells) offsets ≡ true → list_all (is_restart (cell ∷ cells)) offsets ≡ true
 more_there cell cells [] h = refl
 more_there cell cells (r ∷ rs) h =
     let p = and_parts (is_restart cells r) (list_all (is_restart cells) rs) h in

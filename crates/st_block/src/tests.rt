@@ -121,7 +121,8 @@ fn what_is_written_is_read_and_found(rt: HostRuntime) -> Result<(), Fail> {
     let bytes = Arc::new(rt.alloc(), text)?;
     if let Ok(block) = Block::open(bytes, 0, size, BlockKind::Data, &mut scratch) {
         assert_eq!(rt; block.len(), 3);
-        let first = block.read(block.start(), &mut scratch);
+        let start = block.start();
+        let first = block.read(start, &mut scratch);
         assert_eq!(rt; first.map(|entry| entry.next), Some(13));
         assert_eq!(rt;
             scratch.as_slice(),
