@@ -127,7 +127,7 @@ module _ (again : (front rest : List ℕ) (n : ℕ) → n < 2 ^ 32 → varint32_
       cells_more most kind area before at (omega (arith, size, some))
       ∙ ap (λ (r : Result (Cell × ℕ) BlockFault). found_then r (λ found. cells_from most kind area found.0.key found.1)) (next_written kind area before rest pair interval count at go.1 (or_right (eqb at 0) (is_after kind before pair.0) go.0) in' e)
       ∙ ap (λ (r : Result (List Cell) BlockFault). with_cell (record { at = at; shared = s; key = pair.0; value = pair.1 }) r)
-        (cells_written most kind area pair.0 pairs interval (count + 1) next go.2 (omega (arith, size)) (omega (arith, size, some, fuel)) (step area entry rest at (length entry) e refl))
+      (cells_written most kind area pair.0 pairs interval (count + 1) next go.2 (omega (arith, size)) (omega (arith, size, some, fuel)) (step area entry rest at (length entry) e refl))
 
   pub entries_written : (kind : BlockKind) (pairs : List (List ℕ × List ℕ)) (interval : ℕ) → MayWrite kind pairs → entries_of kind (entries_bytes interval 0 [] pairs) ≡ Ok (cells_of interval 0 0 [] pairs)
   entries_written kind [] interval may = absurd may
@@ -143,4 +143,4 @@ module _ (again : (front rest : List ℕ) (n : ℕ) → n < 2 ^ 32 → varint32_
       ∙ cells_more (length area - 1) kind area [] 0 (omega (arith, size, some))
       ∙ ap (λ (r : Result (Cell × ℕ) BlockFault). found_then r (λ found. cells_from (length area - 1) kind area found.0.key found.1)) (next_written kind area [] rest pair interval 0 0 may.0 refl (omega arith) refl)
       ∙ ap (λ (r : Result (List Cell) BlockFault). with_cell (record { at = 0; shared = s; key = pair.0; value = pair.1 }) r)
-        (cells_written (length area - 1) kind area pair.0 pairs interval (0 + 1) (0 + length entry) may.1 (omega (arith, size)) (omega (arith, size, some)) (step area entry rest 0 (length entry) refl refl))
+      (cells_written (length area - 1) kind area pair.0 pairs interval (0 + 1) (0 + length entry) may.1 (omega (arith, size)) (omega (arith, size, some)) (step area entry rest 0 (length entry) refl refl))

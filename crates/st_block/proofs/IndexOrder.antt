@@ -24,6 +24,7 @@ after_of before at (Some other) found n e =
   where
     some_same : (x y : Cell × ℕ) → Some x ≡ Some y → x ≡ y
     some_same x y e = cc
+
     both : (s t : Bool) → cond s (cond t (Ok other) (Err (Order at))) (Err (Entry at)) ≡ Ok found → t ≡ true
     both true true e = refl
     both true false e = absurd cc
@@ -40,14 +41,14 @@ rises_from zero area before at cells one same n e =
 rises_from (suc most) area before at cells one same n e =
     elim (cases_Bool (eqb at (length area))) [
       | inl t ↦
-        subst (λ (l : List Cell). rises_behind key_lt one l ≡ true) (nil_is cells (sym (ap (λ (t : Bool). cond t (Ok []) (found_then (next_cell Index area before at) (λ found. cells_from most Index area found.0.key found.1))) t) ∙ e)) refl
+          subst (λ (l : List Cell). rises_behind key_lt one l ≡ true) (nil_is cells (sym (ap (λ (t : Bool). cond t (Ok []) (found_then (next_cell Index area before at) (λ found. cells_from most Index area found.0.key found.1))) t) ∙ e)) refl
       | inr f ↦
-        let r = found_ok (next_cell Index area before at) (λ found. cells_from most Index area found.0.key found.1) cells (sym (ap (λ (t : Bool). cond t (Ok []) (found_then (next_cell Index area before at) (λ found. cells_from most Index area found.0.key found.1))) f) ∙ e) in
-        let there = tested_some Index before at (cell_at area before at) r.0 r.1 in
-        let p = next_behind area before at r.0 there in
-        let up : is_after Index one.key r.0.0.key ≡ true = subst (λ (k : List ℕ). is_after Index k r.0.0.key ≡ true) (sym same) (after_of before at (cell_at area before at) r.0 n r.1) in
-        subst (λ (l : List Cell). rises_behind key_lt one l ≡ true) r.2.2
-        (and_from (key_lt one r.0.0) (rises_behind key_lt r.0.0 r.2.0) up (rises_from most area r.0.0.key r.0.1 r.2.0 r.0.0 refl (λ z. omega (arith, p.0)) r.2.1))
+          let r = found_ok (next_cell Index area before at) (λ found. cells_from most Index area found.0.key found.1) cells (sym (ap (λ (t : Bool). cond t (Ok []) (found_then (next_cell Index area before at) (λ found. cells_from most Index area found.0.key found.1))) f) ∙ e) in
+          let there = tested_some Index before at (cell_at area before at) r.0 r.1 in
+          let p = next_behind area before at r.0 there in
+          let up : is_after Index one.key r.0.0.key ≡ true = subst (λ (k : List ℕ). is_after Index k r.0.0.key ≡ true) (sym same) (after_of before at (cell_at area before at) r.0 n r.1) in
+          subst (λ (l : List Cell). rises_behind key_lt one l ≡ true) r.2.2
+          (and_from (key_lt one r.0.0) (rises_behind key_lt r.0.0 r.2.0) up (rises_from most area r.0.0.key r.0.1 r.2.0 r.0.0 refl (λ z. omega (arith, p.0)) r.2.1))
     ]
   where
     nil_is : (l : List Cell) → (let read : Cells = Ok [] in read) ≡ Ok l → [] ≡ l
@@ -62,12 +63,12 @@ all_rise zero area cells e = subst (λ (l : List Cell). keys_rise l ≡ true) (n
 all_rise (suc most) area cells e =
     elim (cases_Bool (eqb 0 (length area))) [
       | inl t ↦
-        subst (λ (l : List Cell). keys_rise l ≡ true) (nil_is cells (sym (ap (λ (t : Bool). cond t (Ok []) (found_then (next_cell Index area [] 0) (λ found. cells_from most Index area found.0.key found.1))) t) ∙ e)) refl
+          subst (λ (l : List Cell). keys_rise l ≡ true) (nil_is cells (sym (ap (λ (t : Bool). cond t (Ok []) (found_then (next_cell Index area [] 0) (λ found. cells_from most Index area found.0.key found.1))) t) ∙ e)) refl
       | inr f ↦
-        let r = found_ok (next_cell Index area [] 0) (λ found. cells_from most Index area found.0.key found.1) cells (sym (ap (λ (t : Bool). cond t (Ok []) (found_then (next_cell Index area [] 0) (λ found. cells_from most Index area found.0.key found.1))) f) ∙ e) in
-        let there = tested_some Index [] 0 (cell_at area [] 0) r.0 r.1 in
-        let p = next_behind area [] 0 r.0 there in
-        subst (λ (l : List Cell). keys_rise l ≡ true) r.2.2 (rises_from most area r.0.0.key r.0.1 r.2.0 r.0.0 refl (λ z. omega (arith, p.0)) r.2.1)
+          let r = found_ok (next_cell Index area [] 0) (λ found. cells_from most Index area found.0.key found.1) cells (sym (ap (λ (t : Bool). cond t (Ok []) (found_then (next_cell Index area [] 0) (λ found. cells_from most Index area found.0.key found.1))) f) ∙ e) in
+          let there = tested_some Index [] 0 (cell_at area [] 0) r.0 r.1 in
+          let p = next_behind area [] 0 r.0 there in
+          subst (λ (l : List Cell). keys_rise l ≡ true) r.2.2 (rises_from most area r.0.0.key r.0.1 r.2.0 r.0.0 refl (λ z. omega (arith, p.0)) r.2.1)
     ]
   where
     nil_is : (l : List Cell) → (let read : Cells = Ok [] in read) ≡ Ok l → [] ≡ l

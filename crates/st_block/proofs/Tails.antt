@@ -102,9 +102,9 @@ restarts_there interval count at before (pair ∷ pairs) =
     let later = more_there cell cells (restarts_of interval (count + 1) next pair.0 pairs) (restarts_there interval (count + 1) next pair.0 pairs) in
     elim (cases_Bool (eqb (count % interval) 0)) [
       | inl t ↦
-        let none : s ≡ 0 = ap (λ (b : Bool). cond b 0 (common_prefix_len nat_eq before pair.0)) t in
-        let here : is_restart (cell ∷ cells) at ≡ true = or_left (eqb at at && eqb s 0) (is_restart cells at) (and_from (eqb at at) (eqb s 0) (eq-eqb at at refl) (eq-eqb s 0 none)) in
-        ap (λ (b : Bool). list_all (is_restart (cell ∷ cells)) (cond b (at ∷ []) [] ++ restarts_of interval (count + 1) next pair.0 pairs)) t ∙ and_from _ _ here later
+          let none : s ≡ 0 = ap (λ (b : Bool). cond b 0 (common_prefix_len nat_eq before pair.0)) t in
+          let here : is_restart (cell ∷ cells) at ≡ true = or_left (eqb at at && eqb s 0) (is_restart cells at) (and_from (eqb at at) (eqb s 0) (eq-eqb at at refl) (eq-eqb s 0 none)) in
+          ap (λ (b : Bool). list_all (is_restart (cell ∷ cells)) (cond b (at ∷ []) [] ++ restarts_of interval (count + 1) next pair.0 pairs)) t ∙ and_from _ _ here later
       | inr f ↦ ap (λ (b : Bool). list_all (is_restart (cell ∷ cells)) (cond b (at ∷ []) [] ++ restarts_of interval (count + 1) next pair.0 pairs)) f ∙ later
     ]
 
@@ -127,7 +127,7 @@ module _ (again : (front rest : List ℕ) (n : ℕ) → n < 2 ^ 32 → varint32_
       let bytes : written_block interval all ≡ with_tail entries (0 ∷ rest) = ap (λ (l : List ℕ). with_tail entries (or_zero l)) rs in
       let offsets = flat_map fixed32 (0 ∷ rest) in
       let size : length (with_tail entries (0 ∷ rest)) ≡ length entries + 4 * length (0 ∷ rest) + 4 =
-        omega (arith, length-append entries offsets, length-append (entries ++ offsets) (fixed32 (length (0 ∷ rest))), length_fixed (0 ∷ rest)) in
+      omega (arith, length-append entries offsets, length-append (entries ++ offsets) (fixed32 (length (0 ∷ rest))), length_fixed (0 ∷ rest)) in
       let fits : length entries + 4 * length (0 ∷ rest) + 4 < 2 ^ 32 = omega (arith, size, ap (λ (l : List ℕ). length l) bytes, room) in
       let good : are_restarts (0 ∷ rest) ≡ true = restarts_rise interval (0 + 1) next 0 pair.0 pairs (omega (arith, entry_some s pair.0 pair.1)) in
       let small : AllBelow (2 ^ 32) (0 ∷ rest) = subst (AllBelow (2 ^ 32)) rs (restarts_below interval 0 0 (2 ^ 32) [] all (omega (arith, fits))) in

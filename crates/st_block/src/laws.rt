@@ -10,8 +10,7 @@ use st_code::numbers_read_again;
 /// Who adds an entry to a writer that holds some adds it behind them.
 pub fn writer_holds_what_is_added()
     ensures { (writing : Writing) (pairs : List (List ℕ × List ℕ)) (key value : List ℕ) → Holds writing pairs → Holds (added writing key value) (pairs ++ (key, value) ∷ []) }
-{
-}
+{}
 
 /// Opening a block that was written gives the entries that were added, where these are in the order of its kind.
 pub fn written_block_opens()
@@ -25,5 +24,4 @@ pub fn written_block_opens()
 /// The keys of an index block that opens rise as internal keys.
 pub fn index_keys_rise()
     ensures { (text : List ℕ) (cells : List Cell) → block_of Index text ≡ Ok cells → IsTrue (keys_rise cells) }
-{
-}
+{}
