@@ -1,22 +1,17 @@
 -- What was written is read again.
-use Rattle.std.proofs.Common.{◌≡◌, ◌≢◌, ℕ, zero, suc, ◌+◌, ◌-◌, ◌*◌, ◌%◌, ◌^◌, ◌<◌, ◌≤◌, Bool, true, false, cond, eqb, leb, ltb, ◌&&◌, ◌||◌, List, [], ◌∷◌, ◌++◌, length, take, drop, map, Option, Some, None, Result, Ok, Err, refl, sym, ap, subst, ◌∙◌, append_assoc, inl, inr, arith}
-use Rattle.std.specs.Prelude.{IsTrue, nat_eq, option_and_then, slice_range}
+use Rattle.std.proofs.Common.{◌≡◌, ℕ, zero, suc, ◌+◌, ◌-◌, ◌%◌, ◌^◌, ◌<◌, ◌≤◌, Bool, true, false, cond, eqb, ◌||◌, List, [], ◌∷◌, ◌++◌, length, take, drop, Some, Result, Ok, Err, refl, sym, ap, ◌∙◌, append_assoc, arith}
+use Rattle.std.specs.Prelude.{nat_eq, option_and_then, slice_range}
 use Rattle.std.specs.Result.{result_ok}
-use Rattle.std.specs.Int.{w32, from_le_bytes}
-use Rattle.std.specs.List.{common_prefix_len, flat_map, list_all}
-use Rattle.std.proofs.lemmas.Bool.{cases_Bool, cases_lt, and_from, le-leb, le-ltb, lt-ltb, ne_eqb, eq-eqb, or_left, or_right, eqb-true}
-use Rattle.std.proofs.lemmas.List.{append-nil, drop-drop, drop_at, drop_all, length-append, length-drop, take_at, take_all}
+use Rattle.std.specs.List.{common_prefix_len}
+use Rattle.std.proofs.lemmas.Bool.{and_from, le-leb, or_right}
+use Rattle.std.proofs.lemmas.List.{drop-drop, drop_at, length-append, length-drop, take_at}
 use Rattle.std.proofs.lemmas.List.Sums.{common_prefix_len-le}
-use Rattle.std.proofs.lemmas.Nat.{from_le_bytes-to_le_bytes_4}
-use Rattle.st_base.specs.Order.{rises, rises_behind}
 use Rattle.st_base.specs.declared.faults.BlockFault.{BlockFault}
 use Rattle.st_base.specs.declared.faults.BlockFault.TheVariants.{Entry, Order}
 use Rattle.st_code.specs.declared.fault.CodeFault.{CodeFault}
-use Rattle.st_code.specs.declared.fault.CodeFault.TheVariants.{TooLong}
-use Rattle.st_code.specs.Fixed.{fixed32}
 use Rattle.st_code.specs.Varint.{below, placed, spelled, varint, varint32_at}
-use Rattle.st_block.specs.Block.{Cell, Head, Tail, are_restarts, block_of, cell_at, cells_from, counted, entries_before, entries_of, fits, fitted, found_then, head_at, is_after, is_long, is_restart, laid, next_cell, offsets_at, restarts_fit, tail_of, tested, with_cell}
-use Rattle.st_block.specs.Written.{FitsBlock, GoOn, MayWrite, cells_of, entries_bytes, entry_bytes, or_zero, restarts_of, shared_of, with_tail, written_block}
+use Rattle.st_block.specs.Block.{Cell, Head, cell_at, cells_from, entries_of, fits, found_then, head_at, is_after, next_cell, tested, with_cell}
+use Rattle.st_block.specs.Written.{FitsBlock, GoOn, MayWrite, cells_of, entries_bytes, entry_bytes, shared_of}
 use Rattle.st_block.specs.declared.kind.BlockKind.{BlockKind}
 use Rattle.st_block.proofs.Cells.{fitting_is}
 use Rattle.st_block.proofs.Tested.{cells_more, cells_end}

@@ -1,17 +1,15 @@
 -- The keys of an index block rise.
-use Rattle.std.proofs.Common.{◌≡◌, ◌≢◌, ℕ, zero, suc, ◌+◌, ◌-◌, ◌<◌, ◌≤◌, Bool, true, false, cond, eqb, ◌&&◌, ◌||◌, List, [], ◌∷◌, length, take, Option, Some, None, Result, Ok, Err, refl, sym, ap, subst, ◌∙◌, inl, inr, arith}
+use Rattle.std.proofs.Common.{◌≡◌, ◌≢◌, ℕ, zero, suc, Bool, true, false, cond, eqb, ◌||◌, List, [], ◌∷◌, length, take, Option, Some, None, Result, Ok, Err, refl, sym, ap, subst, ◌∙◌, inl, inr, arith}
 use Rattle.std.specs.List.{list_all}
-use Rattle.std.proofs.lemmas.Bool.{cases_Bool, cases_lt, and_from, ne_eqb}
-use Rattle.st_base.specs.Order.{rises, rises_behind}
+use Rattle.std.proofs.lemmas.Bool.{cases_Bool, and_from, ne_eqb}
+use Rattle.st_base.specs.Order.{rises_behind}
 use Rattle.st_base.specs.declared.faults.BlockFault.{BlockFault}
 use Rattle.st_base.specs.declared.faults.BlockFault.TheVariants.{Entry, Order, Restarts}
-use Rattle.st_block.specs.Block.{Cell, Tail, block_of, cells_from, entries_before, entries_of, fitted, found_then, is_after, is_long, is_restart, next_cell, restarts_fit, tail_of, tested, cell_at}
+use Rattle.st_block.specs.Block.{Cell, Tail, block_of, cells_from, entries_before, entries_of, fitted, found_then, is_after, is_long, is_restart, next_cell, tail_of, tested, cell_at}
 use Rattle.st_block.specs.Place.{keys_rise}
-use Rattle.st_block.specs.declared.kind.BlockKind.{BlockKind}
 use Rattle.st_block.specs.declared.kind.BlockKind.TheVariants.{Index}
 use Rattle.st_block.proofs.Laid.{found_ok, next_behind, tested_some}
 use Rattle.st_block.proofs.Searching.{key_lt}
-use Rattle.st_block.proofs.Tested.{cells_more, cells_end}
 
 abbrev Cells : Type 0
 Cells = Result (List Cell) BlockFault

@@ -1,17 +1,16 @@
 -- The tail that was written is read again, and so is the whole block.
-use Rattle.std.proofs.Common.{◌≡◌, ◌≢◌, ℕ, zero, suc, ◌+◌, ◌-◌, ◌*◌, ◌%◌, ◌^◌, ◌<◌, ◌≤◌, Bool, true, false, cond, eqb, ltb, ◌&&◌, ◌||◌, List, [], ◌∷◌, ◌++◌, length, take, drop, map, Option, Some, None, Result, Ok, Err, refl, sym, ap, subst, ◌∙◌, append_assoc, inl, inr, arith}
+use Rattle.std.proofs.Common.{◌≡◌, ℕ, ◌+◌, ◌-◌, ◌*◌, ◌%◌, ◌^◌, ◌<◌, ◌≤◌, Bool, true, false, cond, eqb, ltb, ◌&&◌, List, [], ◌∷◌, ◌++◌, length, take, drop, map, Some, None, Ok, Err, refl, sym, ap, subst, ◌∙◌, append_assoc, inl, inr, arith}
 use Rattle.std.specs.Prelude.{nat_eq}
 use Rattle.std.specs.Int.{w32, from_le_bytes}
 use Rattle.std.specs.List.{common_prefix_len, flat_map, list_all}
 use Rattle.std.proofs.lemmas.Bool.{cases_Bool, and_from, le-ltb, lt-ltb, eq-eqb, or_left}
 use Rattle.std.proofs.lemmas.List.{drop-drop, drop_at, length-append, take_at}
 use Rattle.std.proofs.lemmas.Nat.{from_le_bytes-to_le_bytes_4}
-use Rattle.st_base.specs.Order.{rises, rises_behind}
-use Rattle.st_base.specs.declared.faults.BlockFault.{BlockFault}
+use Rattle.st_base.specs.Order.{rises_behind}
 use Rattle.st_base.specs.declared.faults.BlockFault.TheVariants.{Restarts}
 use Rattle.st_code.specs.Fixed.{fixed32}
 use Rattle.st_code.specs.Varint.{varint, varint32_at}
-use Rattle.st_block.specs.Block.{Cell, Tail, are_restarts, block_of, counted, entries_before, entries_of, fitted, is_restart, offsets_at, restarts_fit, tail_of}
+use Rattle.st_block.specs.Block.{Cell, Tail, are_restarts, block_of, counted, entries_before, entries_of, fitted, is_restart, offsets_at, tail_of}
 use Rattle.st_block.specs.Written.{MayWrite, cells_of, entries_bytes, entry_bytes, or_zero, restarts_of, shared_of, with_tail, written_block}
 use Rattle.st_block.specs.declared.kind.BlockKind.{BlockKind}
 use Rattle.st_block.proofs.Again.{entries_written}

@@ -6,7 +6,7 @@ use Rattle.std.proofs.lemmas.Bool.{cases_Bool, eqb-true}
 use Rattle.std.proofs.lemmas.List.{length-append, length-drop, append-nil}
 use Rattle.st_code.specs.Fixed.{fixed32}
 use Rattle.st_code.specs.Varint.{varint, shortest}
-use Rattle.st_block.specs.Written.{Holds, IsWriting, Writing, added, entries_bytes, entry_bytes, finished, last_key, or_zero, restarts_of, shared_of, with_tail}
+use Rattle.st_block.specs.Written.{Holds, IsWriting, Writing, added, entries_bytes, entry_bytes, finished, last_key, or_zero, restarts_of, shared_of}
 
 -- ---- a common front
 

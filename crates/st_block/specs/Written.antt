@@ -1,5 +1,5 @@
 -- How a block is written: entries with the greatest possible shared lengths, restarts at every so many of them.
-use Rattle.std.specs.Prelude.{◌≡◌, ◌≤◌, ◌<◌, ◌^◌, ℕ, zero, suc, ◌+◌, ◌-◌, ◌%◌, ◌==◌, nat_eq, List, [], ◌∷◌, ◌++◌, length, drop, IsTrue, if◌then◌else◌}
+use Rattle.std.specs.Prelude.{◌≡◌, ◌≤◌, ◌<◌, ◌^◌, ℕ, ◌+◌, ◌-◌, ◌%◌, ◌==◌, nat_eq, List, [], ◌∷◌, ◌++◌, length, drop, IsTrue, if◌then◌else◌}
 use Rattle.std.specs.List.{common_prefix_len, flat_map}
 use Rattle.st_code.specs.Fixed.{fixed32}
 use Rattle.st_code.specs.Varint.{varint}
