@@ -1,11 +1,8 @@
 -- Reading one entry.
-use Rattle.std.proofs.Common.{◌≡◌, ◌≢◌, ℕ, zero, suc, ◌+◌, ◌<◌, ◌≤◌, Bool, true, false, cond, leb, eqb, ◌&&◌, ◌||◌, List, [], ◌∷◌, ◌++◌, length, take, Option, Some, None, Result, Ok, Err, refl, sym, ap, ◌∙◌, arith}
-use Rattle.std.specs.Prelude.{slice_range, option_and_then, IsTrue}
-use Rattle.std.proofs.lemmas.Bool.{and_parts, leb-true, ne_eqb}
-use Rattle.st_base.specs.declared.faults.BlockFault.{BlockFault}
-use Rattle.st_base.specs.declared.faults.BlockFault.TheVariants.{Entry, Order}
-use Rattle.st_block.specs.Block.{Cell, Head, head_at, fits, laid, cell_at, tested, next_cell, is_long, is_after}
-use Rattle.st_block.specs.declared.kind.BlockKind.{BlockKind}
+use Rattle.std.proofs.Common.{◌≡◌, ℕ, ◌+◌, ◌≤◌, Bool, true, cond, leb, ◌&&◌, List, length, Option, Some, None, sym, ap, ◌∙◌}
+use Rattle.std.specs.Prelude.{option_and_then}
+use Rattle.std.proofs.lemmas.Bool.{and_parts, leb-true}
+use Rattle.st_block.specs.Block.{Head, head_at, fits, laid, cell_at}
 
 pub fitting_is : (area before : List ℕ) (at : ℕ) (head : Head) → Some head ≡ head_at area at → fits area before head ≡ true → cell_at area before at ≡ Some (laid area before at head)
 unfolding cell_at

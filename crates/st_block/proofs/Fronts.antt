@@ -1,11 +1,11 @@
 -- Comparing keys byte by byte.
-use Rattle.std.proofs.Common.{◌≡◌, ℕ, zero, suc, ◌+◌, ◌-◌, ◌<◌, ◌≤◌, min, Bool, true, false, cond, ltb, eqb, List, [], ◌∷◌, ◌++◌, length, get_or, take, drop, Ordering, Less, Equal, Greater, refl, sym, ap, subst, ◌∙◌, inl, inr, arith}
+use Rattle.std.proofs.Common.{◌≡◌, ℕ, ◌+◌, ◌-◌, ◌<◌, ◌≤◌, min, Bool, true, false, cond, ltb, eqb, List, [], ◌∷◌, ◌++◌, length, get_or, take, drop, Ordering, Less, Equal, Greater, refl, sym, ap, ◌∙◌, inl, inr, arith}
 use Rattle.std.specs.Ordering.{nat_cmp, ordering_then, is_lt}
-use Rattle.std.proofs.lemmas.Bool.{cases_order, cases_lt, lt-ltb, le-ltb, ne_eqb, eq-eqb}
+use Rattle.std.proofs.lemmas.Bool.{cases_order, lt-ltb, le-ltb, ne_eqb}
 use Rattle.std.proofs.lemmas.Cmp.{tied_itself, nat_cmp_total}
 use Rattle.std.proofs.lemmas.List.{drop_more, drop_all, length-take, length-append, get_or-take}
 use Rattle.st_base.specs.Bytes.{bytes_cmp}
-use Rattle.st_block.specs.InternalKey.{internal_cmp, packed, user_key}
+use Rattle.st_block.specs.InternalKey.{internal_cmp, packed}
 
 at_place : (xs ys : List ℕ) (i : ℕ) → i < length xs → i < length ys
     → bytes_cmp (drop i xs) (drop i ys) ≡ ordering_then (nat_cmp (get_or xs i 0) (get_or ys i 0)) (bytes_cmp (drop (i + 1) xs) (drop (i + 1) ys))

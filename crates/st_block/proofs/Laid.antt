@@ -1,12 +1,12 @@
 -- How the entries of a block lie in its bytes, one behind the other.
-use Rattle.std.proofs.Common.{◌≡◌, ◌≢◌, ℕ, zero, suc, ◌+◌, ◌-◌, ◌*◌, ◌^◌, ◌<◌, ◌≤◌, Bool, true, false, cond, eqb, ltb, leb, ◌&&◌, ◌||◌, List, [], ◌∷◌, length, drop, Option, Some, None, Result, Ok, Err, refl, sym, ap, subst, ◌∙◌, inl, inr, arith}
-use Rattle.std.specs.Prelude.{option_and_then, IsTrue}
+use Rattle.std.proofs.Common.{◌≡◌, ℕ, zero, suc, ◌+◌, ◌-◌, ◌*◌, ◌^◌, ◌<◌, ◌≤◌, Bool, true, false, cond, eqb, ltb, ◌||◌, List, [], ◌∷◌, length, drop, Option, Some, None, Result, Ok, Err, refl, sym, ap, subst, ◌∙◌, inl, inr, arith}
+use Rattle.std.specs.Prelude.{option_and_then}
 use Rattle.std.specs.Result.{result_ok}
-use Rattle.std.proofs.lemmas.Bool.{cases_Bool, cases_lt, eqb-true, eqb-false}
+use Rattle.std.proofs.lemmas.Bool.{cases_Bool, eqb-true}
 use Rattle.st_base.specs.declared.faults.BlockFault.{BlockFault}
 use Rattle.st_base.specs.declared.faults.BlockFault.TheVariants.{Entry, Order}
 use Rattle.st_code.specs.declared.fault.CodeFault.{CodeFault}
-use Rattle.st_code.specs.declared.fault.CodeFault.TheVariants.{Short, TooLong}
+use Rattle.st_code.specs.declared.fault.CodeFault.TheVariants.{TooLong}
 use Rattle.st_code.specs.Varint.{spelled, with_low, below, placed, varint32_at}
 use Rattle.st_block.specs.Block.{Cell, Head, cell_at, cells_from, entries_of, fits, found_then, head_at, is_after, is_long, laid, next_cell, tested, with_cell}
 use Rattle.st_block.specs.declared.kind.BlockKind.{BlockKind}
@@ -101,7 +101,7 @@ abbrev pub Laid : List ℕ → List ℕ → ℕ → List Cell → Type 0
 Laid area before at [] = at ≡ length area
 Laid area before at (cell ∷ cells) = (next : ℕ) × (cell_at area before at ≡ Some (cell, next)) × Laid area cell.key next cells
 
-tested_some : (kind : BlockKind) (before : List ℕ) (at : ℕ) (o : Option (Cell × ℕ)) (found : Cell × ℕ) → tested kind before at o ≡ Ok found → o ≡ Some found
+pub tested_some : (kind : BlockKind) (before : List ℕ) (at : ℕ) (o : Option (Cell × ℕ)) (found : Cell × ℕ) → tested kind before at o ≡ Ok found → o ≡ Some found
 tested_some kind before at None found e = absurd cc
 tested_some kind before at (Some other) found e = ap (λ (x : Cell × ℕ). Some x) (both (is_long kind other.0.key) (eqb at 0 || is_after kind before other.0.key) e)
   where
@@ -113,7 +113,7 @@ tested_some kind before at (Some other) found e = ap (λ (x : Cell × ℕ). Some
 abbrev Cells : Type 0
 Cells = Result (List Cell) BlockFault
 
-found_ok : (r : Result (Cell × ℕ) BlockFault) (f : Cell × ℕ → Cells) (cells : List Cell) → found_then r f ≡ Ok cells → (found : Cell × ℕ) × (r ≡ Ok found) × ((rest : List Cell) × (f found ≡ Ok rest) × (found.0 ∷ rest ≡ cells))
+pub found_ok : (r : Result (Cell × ℕ) BlockFault) (f : Cell × ℕ → Cells) (cells : List Cell) → found_then r f ≡ Ok cells → (found : Cell × ℕ) × (r ≡ Ok found) × ((rest : List Cell) × (f found ≡ Ok rest) × (found.0 ∷ rest ≡ cells))
 found_ok (Err fault) f cells e = absurd cc
 found_ok (Ok found) f cells e = (found, refl, more (f found) e)
   where

@@ -1,13 +1,13 @@
 -- A block as a whole: its tail, its entries, and its restarts.
-use Rattle.std.proofs.Common.{◌≡◌, ◌≢◌, ℕ, zero, suc, ◌+◌, ◌-◌, ◌*◌, ◌<◌, ◌≤◌, ◌⊎◌, Bool, true, false, cond, eqb, ltb, ◌&&◌, List, [], ◌∷◌, length, take, drop, Option, Some, None, Result, Ok, Err, refl, sym, ap, subst, ◌∙◌, inl, inr, arith}
+use Rattle.std.proofs.Common.{◌≡◌, ◌≢◌, ℕ, zero, suc, ◌+◌, ◌-◌, ◌*◌, ◌<◌, Bool, true, false, cond, eqb, ltb, List, [], ◌∷◌, length, take, drop, Option, Some, None, Ok, Err, refl, sym, ap, subst, ◌∙◌, inl, inr, arith}
 use Rattle.std.specs.Int.{w32, from_le_bytes}
-use Rattle.std.specs.List.{fold, list_all}
+use Rattle.std.specs.List.{list_all}
 use Rattle.std.proofs.lemmas.Bool.{cases_Bool, and_parts, eq-eqb, ne_eqb, eqb-true}
 use Rattle.st_base.specs.Order.{rises}
 use Rattle.st_base.specs.declared.faults.BlockFault.{BlockFault}
-use Rattle.st_base.specs.declared.faults.BlockFault.TheVariants.{Restarts, Entry}
+use Rattle.st_base.specs.declared.faults.BlockFault.TheVariants.{Restarts}
 use Rattle.st_block.specs.Block.{Cell, Tail as Parts, are_restarts, block_of, counted, entries_before, entries_of, fitted, is_restart, none_fit, offsets_at, restarts_fit, tail_of}
-use Rattle.st_block.specs.Entry.{IsLayout, IsTested, IsUnfit, MayStand, pass, restarts_left}
+use Rattle.st_block.specs.Entry.{IsLayout, IsTested, IsUnfit, MayStand, restarts_left}
 use Rattle.st_block.specs.declared.kind.BlockKind.{BlockKind}
 use Rattle.st_block.specs.declared.kind.BlockKind.TheVariants.{Data, Index, Plain}
 use Rattle.st_block.specs.declared.open.Found.{Found}

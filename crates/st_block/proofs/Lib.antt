@@ -1,11 +1,14 @@
+pub mod Again
 pub mod Cells
 pub mod Choices
 pub mod Fronts
+pub mod IndexOrder
 pub mod Laid
 pub mod Layouts
 pub mod Meeting
 pub mod Offsets
 pub mod Places
 pub mod Searching
+pub mod Tails
 pub mod Tested
 pub mod Writers

@@ -1,7 +1,7 @@
 -- Restarts that are met one after the other are entries that share nothing, and the other way round.
-use Rattle.std.proofs.Common.{◌≡◌, ◌≢◌, ℕ, zero, suc, ◌+◌, ◌-◌, ◌<◌, ◌≤◌, Bool, true, false, cond, eqb, ltb, ◌&&◌, ◌||◌, List, [], ◌∷◌, length, Some, refl, sym, ap, subst, ◌∙◌, inl, inr, arith}
-use Rattle.std.specs.List.{fold, list_all, list_any}
-use Rattle.std.proofs.lemmas.Bool.{cases_Bool, and_parts, and_from, or_cases, or_left, or_right, ltb-true, eqb-true, false≢true, cases_lt}
+use Rattle.std.proofs.Common.{◌≡◌, ◌≢◌, ℕ, ◌<◌, ◌≤◌, Bool, true, false, cond, eqb, ltb, ◌&&◌, ◌||◌, List, [], ◌∷◌, refl, sym, ap, ◌∙◌, inl, inr, arith}
+use Rattle.std.specs.List.{fold, list_all}
+use Rattle.std.proofs.lemmas.Bool.{cases_Bool, and_parts, and_from, or_left, or_right, ltb-true, eqb-true, false≢true, cases_lt}
 use Rattle.st_base.specs.Order.{rises, rises_behind}
 use Rattle.st_block.specs.Block.{Cell, is_restart}
 use Rattle.st_block.specs.Entry.{pass}
@@ -13,7 +13,7 @@ fits cell offset = eqb cell.at offset && eqb cell.shared 0
 
 -- ---- what was met is there
 
-more_there : (cell : Cell) (cells : List Cell) (offsets : List ℕ) → list_all (is_restart cells) offsets ≡ true → list_all (is_restart (cell ∷ cells)) offsets ≡ true
+pub more_there : (cell : Cell) (cells : List Cell) (offsets : List ℕ) → list_all (is_restart cells) offsets ≡ true → list_all (is_restart (cell ∷ cells)) offsets ≡ true
 more_there cell cells [] h = refl
 more_there cell cells (r ∷ rs) h =
     let p = and_parts (is_restart cells r) (list_all (is_restart cells) rs) h in

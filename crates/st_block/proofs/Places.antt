@@ -1,13 +1,13 @@
 -- Places in an opened block.
-use Rattle.std.proofs.Common.{◌≡◌, ◌≢◌, ℕ, zero, suc, ◌+◌, ◌-◌, ◌*◌, ◌<◌, ◌≤◌, ◌⊎◌, Bool, true, false, cond, eqb, leb, ltb, ◌&&◌, ◌||◌, List, [], ◌∷◌, ◌++◌, length, take, drop, Option, Some, None, refl, sym, ap, subst, ◌∙◌, inl, inr, arith}
-use Rattle.std.specs.Prelude.{slice_range, IsTrue}
-use Rattle.std.proofs.lemmas.Bool.{cases_Bool, cases_lt, and_parts, and_from, eqb-true, eq-eqb, ne_eqb, le-leb, false≢true}
+use Rattle.std.proofs.Common.{◌≡◌, ◌≢◌, ℕ, ◌+◌, ◌<◌, ◌≤◌, ◌⊎◌, Bool, true, false, cond, eqb, ◌&&◌, ◌||◌, List, [], ◌∷◌, ◌++◌, length, take, Some, None, refl, sym, ap, subst, ◌∙◌, inl, inr, arith}
+use Rattle.std.specs.Prelude.{slice_range}
+use Rattle.std.proofs.lemmas.Bool.{cases_Bool, and_parts, and_from, eqb-true, eq-eqb, ne_eqb, le-leb}
 use Rattle.std.proofs.lemmas.List.{take_at, length-take, length-append, length-take-le}
-use Rattle.st_block.specs.Block.{Cell, Head, cell_at, entries_of, fits, head_at, is_restart, laid}
+use Rattle.st_block.specs.Block.{Cell, Head, cell_at, fits, head_at, is_restart, laid}
 use Rattle.st_block.specs.Place.{Contents, Primes, Stands, Takes, cells_at, place_of}
 use Rattle.st_block.proofs.Cells.{fitting_is, fits_parts}
-use Rattle.st_block.proofs.Laid.{IsThere, Laid, cell_there, next_behind, some_is}
-use Rattle.st_block.proofs.Meeting.{Behind, Rising, not_there, laid_rising}
+use Rattle.st_block.proofs.Laid.{Laid, cell_there, next_behind, some_is}
+use Rattle.st_block.proofs.Meeting.{Rising, not_there}
 
 -- ---- an entry behind another key that has what it shares
 

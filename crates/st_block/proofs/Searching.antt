@@ -1,24 +1,23 @@
 -- Looking for a place from a restart on.
-use Rattle.std.proofs.Common.{◌≡◌, ◌≢◌, ℕ, zero, suc, ◌+◌, ◌-◌, ◌*◌, ◌/◌, ◌<◌, ◌≤◌, ◌⊎◌, Bool, true, false, cond, eqb, ltb, ◌&&◌, List, [], ◌∷◌, length, take, drop, Some, Ordering, Less, Equal, Greater, refl, sym, ap, subst, ◌∙◌, inl, inr, arith}
-use Rattle.std.specs.Prelude.{IsTrue}
+use Rattle.std.proofs.Common.{◌≡◌, ℕ, zero, suc, ◌+◌, ◌*◌, ◌/◌, ◌<◌, ◌≤◌, ◌⊎◌, Bool, true, false, cond, eqb, List, [], ◌∷◌, length, take, drop, Some, Ordering, Less, Equal, Greater, refl, sym, ap, subst, ◌∙◌, inl, inr, arith}
 use Rattle.std.specs.Int.{w32, from_le_bytes}
 use Rattle.std.specs.List.{list_all}
 use Rattle.std.specs.Ordering.{nat_cmp, ordering_then, is_lt}
-use Rattle.std.proofs.lemmas.Bool.{cases_Bool, cases_lt, and_parts, eqb-true, false≢true, lt-ltb, le-ltb}
-use Rattle.std.proofs.lemmas.Cmp.{nat_list_cmp_total, tied_itself, tied_back, alike_right}
+use Rattle.std.proofs.lemmas.Bool.{cases_Bool, cases_lt, and_parts, false≢true, lt-ltb, le-ltb}
+use Rattle.std.proofs.lemmas.Cmp.{nat_list_cmp_total, alike_right}
 use Rattle.std.proofs.lemmas.List.{nil_from_length, length-take}
 use Rattle.st_base.specs.Bytes.{bytes_cmp}
 use Rattle.st_base.specs.Order.{rises, rises_behind}
-use Rattle.st_block.specs.Block.{Cell, cell_at, entries_of, is_restart, offsets_at}
+use Rattle.st_block.specs.Block.{Cell, cell_at, is_restart, offsets_at}
 use Rattle.st_block.specs.Entry.{IsLayout}
 use Rattle.st_block.specs.InternalKey.{internal_cmp, is_key_before, packed, user_key}
 use Rattle.st_block.specs.Place.{Contents, Primes, Stands, Takes, cells_at, cells_from_place, cells_in, contents_in, keys_rise, lower_place, place_of}
 use Rattle.st_block.specs.Search.{IsStart}
 use Rattle.st_block.specs.declared.kind.BlockKind.{BlockKind}
 use Rattle.st_block.specs.declared.open.Layout.{Layout}
-use Rattle.st_block.proofs.Laid.{Laid, entries_laid}
-use Rattle.st_block.proofs.Meeting.{Rising, laid_rising}
-use Rattle.st_block.proofs.Places.{at_start, cases_list, first_at, primes_of, restart_at}
+use Rattle.st_block.proofs.Laid.{entries_laid}
+use Rattle.st_block.proofs.Meeting.{laid_rising}
+use Rattle.st_block.proofs.Places.{at_start, first_at, primes_of, restart_at}
 
 -- ---- restarts by their place
 

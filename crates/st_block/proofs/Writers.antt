@@ -1,12 +1,12 @@
 -- Writing entries one behind the other.
-use Rattle.std.proofs.Common.{◌≡◌, ℕ, zero, suc, ◌+◌, ◌-◌, ◌/◌, ◌%◌, ◌<◌, ◌≤◌, ◌^◌, inl, inr, Bool, true, false, cond, eqb, ltb, List, [], ◌∷◌, ◌++◌, length, take, drop, refl, sym, ap, ◌∙◌, append_assoc, arith}
+use Rattle.std.proofs.Common.{◌≡◌, ℕ, zero, suc, ◌+◌, ◌-◌, ◌*◌, ◌/◌, ◌%◌, ◌<◌, ◌≤◌, ◌^◌, inl, inr, Bool, true, false, cond, eqb, ltb, List, [], ◌∷◌, ◌++◌, length, take, drop, refl, sym, ap, ◌∙◌, append_assoc, arith}
 use Rattle.std.specs.Prelude.{nat_eq}
 use Rattle.std.specs.List.{common_prefix_len, flat_map}
 use Rattle.std.proofs.lemmas.Bool.{cases_Bool, eqb-true}
-use Rattle.std.proofs.lemmas.List.{length-append, append-nil}
+use Rattle.std.proofs.lemmas.List.{length-append, length-drop, append-nil}
 use Rattle.st_code.specs.Fixed.{fixed32}
 use Rattle.st_code.specs.Varint.{varint, shortest}
-use Rattle.st_block.specs.Written.{Holds, IsWriting, Writing, added, entries_bytes, entry_bytes, finished, last_key, or_zero, restarts_of, shared_of, with_tail}
+use Rattle.st_block.specs.Written.{Holds, IsWriting, Writing, added, entries_bytes, entry_bytes, finished, last_key, or_zero, restarts_of, shared_of}
 
 -- ---- a common front
 
@@ -119,3 +119,43 @@ keeps_writing writing key value w room =
     at_most : (t : Bool) → length (cond t (length writing.entries ∷ []) []) ≤ 1
     at_most true = omega arith
     at_most false = omega arith
+
+-- ---- room
+
+short_form : (most n : ℕ) → length (shortest most n) ≤ most
+unfolding shortest
+short_form zero n = omega arith
+short_form (suc most) n = either (ltb n 128) (short_form most (n / 128))
+  where
+    either : (t : Bool) → length (shortest most (n / 128)) ≤ most → length (cond t (n ∷ []) ((n % 128 + 128) ∷ shortest most (n / 128))) ≤ suc most
+    either true h = omega arith
+    either false h = omega arith
+
+-- what is finished with an entry more is no longer than this
+pub finished_short : (writing : Writing) (key value : List ℕ) → length (finished (added writing key value)) ≤ length writing.entries + length key + length value + 4 * length writing.restarts + 42
+finished_short writing key value =
+    let s = shared_of writing.interval writing.count writing.last key in
+    let a = varint s in
+    let b = varint (length key - s) in
+    let c = varint (length value) in
+    let k = drop s key in
+    let entry : length (entry_bytes s key value) ≤ 30 + length key + length value =
+    omega (arith, short_form 10 s, short_form 10 (length key - s), short_form 10 (length value), length-append a b, length-append (a ++ b) c, length-append (a ++ b ++ c) k, length-append (a ++ b ++ c ++ k) value, length-drop s key) in
+    let w = added writing key value in
+    let due = cond (eqb (writing.count % writing.interval) 0) (length writing.entries ∷ []) [] in
+    let one : length due ≤ 1 = at_most (eqb (writing.count % writing.interval) 0) in
+    let zeros = or_zero w.restarts in
+    let some : length zeros ≤ length writing.restarts + 2 = omega (arith, zero_more w.restarts, length-append writing.restarts due, one) in
+    omega (arith, entry, some, length-append writing.entries (entry_bytes s key value), length-append w.entries (flat_map fixed32 zeros), length-append (w.entries ++ flat_map fixed32 zeros) (fixed32 (length zeros)), four zeros)
+  where
+    at_most : (t : Bool) → length (cond t (length writing.entries ∷ []) []) ≤ 1
+    at_most true = omega arith
+    at_most false = omega arith
+
+    zero_more : (l : List ℕ) → length (or_zero l) ≤ length l + 1
+    zero_more [] = omega arith
+    zero_more (r ∷ l) = omega arith
+
+    four : (l : List ℕ) → length (flat_map fixed32 l) ≡ 4 * length l
+    four [] = refl
+    four (r ∷ l) = omega (arith, four l, length-append (fixed32 r) (flat_map fixed32 l))

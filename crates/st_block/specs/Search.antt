@@ -1,7 +1,6 @@
 -- The restart from which a place is looked for.
 use Rattle.std.specs.Prelude.{◌≡◌, ℕ, ◌⊎◌, List, ◌∷◌, take, IsTrue}
 use Rattle.st_block.specs.Block.{Cell, is_restart}
-use Rattle.st_block.specs.Entry.{IsLayout}
 use Rattle.st_block.specs.InternalKey.{is_key_before}
 use Rattle.st_block.specs.Place.{cells_at, cells_in}
 use Rattle.st_block.specs.declared.kind.BlockKind.{BlockKind}

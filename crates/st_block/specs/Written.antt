@@ -1,8 +1,10 @@
 -- How a block is written: entries with the greatest possible shared lengths, restarts at every so many of them.
-use Rattle.std.specs.Prelude.{◌≡◌, ◌≤◌, ◌<◌, ◌^◌, ℕ, zero, suc, ◌+◌, ◌-◌, ◌%◌, ◌==◌, nat_eq, List, [], ◌∷◌, ◌++◌, length, drop, if◌then◌else◌}
+use Rattle.std.specs.Prelude.{◌≡◌, ◌≤◌, ◌<◌, ◌^◌, ℕ, ◌+◌, ◌-◌, ◌%◌, ◌==◌, nat_eq, List, [], ◌∷◌, ◌++◌, length, drop, IsTrue, if◌then◌else◌}
 use Rattle.std.specs.List.{common_prefix_len, flat_map}
 use Rattle.st_code.specs.Fixed.{fixed32}
 use Rattle.st_code.specs.Varint.{varint}
+use Rattle.st_block.specs.Block.{Cell, is_after, is_long}
+use Rattle.st_block.specs.declared.kind.BlockKind.{BlockKind}
 
 -- an entry that shares so many bytes
 abbrev pub entry_bytes : ℕ → List ℕ → List ℕ → List ℕ
@@ -81,3 +83,28 @@ pub record IsWriting (writing : Writing) : Type 0 where
 -- bytes were put behind the old ones
 abbrev pub Appends : List ℕ → List ℕ → Type 0
 Appends old new = (more : List ℕ) × (new ≡ old ++ more)
+
+-- ---- what may be written
+
+-- a key and a value are within their limits, and the key is long enough for the kind of block
+pub record FitsBlock (kind : BlockKind) (pair : List ℕ × List ℕ) : Type 0 where
+  pub key : length pair.0 ≤ 65543
+  pub value : length pair.1 ≤ 1048576
+  pub long : IsTrue (is_long kind pair.0)
+
+-- keys behind a key, in the order of the kind of block
+abbrev pub GoOn : BlockKind → List ℕ → List (List ℕ × List ℕ) → Type 0
+GoOn kind before [] = Unit {0}
+GoOn kind before (pair ∷ pairs) = IsTrue (is_after kind before pair.0) × FitsBlock kind pair × GoOn kind pair.0 pairs
+
+-- keys and values of a block with an entry, in the order of its kind
+abbrev pub MayWrite : BlockKind → List (List ℕ × List ℕ) → Type 0
+MayWrite kind [] = ⊥
+MayWrite kind (pair ∷ pairs) = FitsBlock kind pair × GoOn kind pair.0 pairs
+
+-- the entry that a pair is written as, and those of pairs from a place on
+abbrev pub cells_of : ℕ → ℕ → ℕ → List ℕ → List (List ℕ × List ℕ) → List Cell
+cells_of interval count at before [] = []
+cells_of interval count at before (pair ∷ pairs) =
+    record { at = at; shared = shared_of interval count before pair.0; key = pair.0; value = pair.1 }
+    ∷ cells_of interval (count + 1) (at + length (entry_bytes (shared_of interval count before pair.0) pair.0 pair.1)) pair.0 pairs

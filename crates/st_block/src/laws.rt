@@ -1,7 +1,27 @@
-ghost use Rattle.std.specs.Prelude.{ℕ, List, [], ◌∷◌, ◌++◌};
-ghost use Rattle.st_block.specs.Written.{Holds, Writing, added};
+ghost use Rattle.std.specs.Prelude.{◌≡◌, ℕ, ◌<◌, ◌^◌, List, [], ◌∷◌, ◌++◌, IsTrue, Ok, length, map};
+ghost use Rattle.st_block.specs.Block.{Cell, block_of};
+ghost use Rattle.st_block.specs.Place.{keys_rise};
+ghost use Rattle.st_block.specs.Written.{Holds, MayWrite, Writing, added, cells_of, written_block};
+ghost use Rattle.st_block.specs.declared.kind.BlockKind.{BlockKind};
+ghost use Rattle.st_block.specs.declared.kind.BlockKind.TheVariants.{Index};
+
+use st_code::numbers_read_again;
 
 /// Who adds an entry to a writer that holds some adds it behind them.
 pub fn writer_holds_what_is_added()
     ensures { (writing : Writing) (pairs : List (List ℕ × List ℕ)) (key value : List ℕ) → Holds writing pairs → Holds (added writing key value) (pairs ++ (key, value) ∷ []) }
+{}
+
+/// Opening a block that was written gives the entries that were added, where these are in the order of its kind.
+pub fn written_block_opens()
+    ensures opens { (kind : BlockKind) (interval : ℕ) (pairs : List (List ℕ × List ℕ)) → 0 < interval → MayWrite kind pairs → length (written_block interval pairs) < 2 ^ 32
+        → block_of kind (written_block interval pairs) ≡ Ok (cells_of interval 0 0 [] pairs) }
+    ensures entries { (interval : ℕ) (pairs : List (List ℕ × List ℕ)) → map (λ (cell : Cell). (cell.key, cell.value)) (cells_of interval 0 0 [] pairs) ≡ pairs }
+{
+    numbers_read_again();
+}
+
+/// The keys of an index block that opens rise as internal keys.
+pub fn index_keys_rise()
+    ensures { (text : List ℕ) (cells : List Cell) → block_of Index text ≡ Ok cells → IsTrue (keys_rise cells) }
 {}

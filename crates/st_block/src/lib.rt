@@ -15,5 +15,5 @@ mod writer;
 
 pub use block::{Block, BlockEntry};
 pub use kind::BlockKind;
-pub use laws::writer_holds_what_is_added;
+pub use laws::{index_keys_rise, writer_holds_what_is_added, written_block_opens};
 pub use writer::BlockWriter;

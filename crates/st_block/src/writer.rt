@@ -1,9 +1,9 @@
-ghost use Rattle.std.specs.Prelude.{◌≡◌, ℕ, ◌+◌, ◌-◌, ◌<◌, ◌≤◌, ◌^◌, [], ◌∷◌, ◌++◌, List, IfOk, OnErr, OnOk, length, take, drop, nat_eq, ◌%◌, ◌==◌, if◌then◌else◌};
+ghost use Rattle.std.specs.Prelude.{◌≡◌, ℕ, ◌+◌, ◌-◌, ◌<◌, ◌≤◌, ◌^◌, [], ◌∷◌, ◌++◌, List, IfOk, IsTrue, OnErr, OnOk, ◌*◌, length, take, drop, nat_eq, ◌%◌, ◌==◌, if◌then◌else◌};
 ghost use Rattle.std.specs.List.{common_prefix_len, flat_map};
 ghost use Rattle.st_code.specs.Fixed.{fixed32};
 ghost use Rattle.st_block.specs.Written.{Appends, entry_bytes, shared_of};
 
-use st_base::{Bytes, List, Scratch};
+use st_base::{Bytes, INTERNAL_KEY_BYTES, List, Scratch, VALUE_BYTES};
 use st_code::{push_fixed32, push_varint};
 use std::alloc::{AllocError, Global};
 use std::marker::Model;
@@ -153,6 +153,21 @@ impl BlockWriter {
         self.last.keep_and_add(shared, &key[shared..]);
         self.count += 1;
         Ok(())
+    }
+
+    /// Whether the entry may be added: its key and value are within their limits, and what `finish` then gives has fewer than
+    /// 2^32 bytes. It may be false from 64 bytes below that on.
+    pub fn has_room(&self, key: &[u8], value: &[u8]) -> bool
+        ensures key { IsTrue result → length key.now ≤ 65543 }
+        ensures value { IsTrue result → length value.now ≤ 1048576 }
+        ensures room { IsTrue result → length (finished (added self.now key.now value.now)) < 2 ^ 32 }
+        ensures roomy { length key.now ≤ 65543 → length value.now ≤ 1048576
+            → length self.now.entries + length key.now + length value.now + 4 * length self.now.restarts + 64 < 2 ^ 32 → IsTrue result }
+    {
+        key.len() <= INTERNAL_KEY_BYTES
+            && value.len() <= VALUE_BYTES
+            && self.entries.len() + key.len() + value.len() + 4 * self.restarts.len() + 42
+                < 0x1_0000_0000
     }
 
     /// How many bytes the entries have.

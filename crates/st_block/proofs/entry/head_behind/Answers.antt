@@ -1,4 +1,4 @@
-use Rattle.std.proofs.Common.{◌≡◌, true, sym, arith, rules}
+use Rattle.std.proofs.Common.{◌≡◌, true, sym}
 use Rattle.st_block.specs.Block.{fits}
 use Rattle.st_block.specs.Entry.{head_of}
 use Rattle.st_block.proofs.Cells.{fitting_is, fits_parts}

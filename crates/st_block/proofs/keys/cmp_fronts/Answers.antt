@@ -1,4 +1,4 @@
-use Rattle.std.proofs.Common.{◌≡◌, ◌≤◌, ◌<◌, ◌+◌, ◌++◌, length, take, sym, ◌∙◌, refl, arith}
+use Rattle.std.proofs.Common.{◌++◌, take, sym, ◌∙◌, refl, arith}
 use Rattle.st_block.proofs.Fronts.{length_new, fronts_more, fronts_stop, fronts_end}
 use Rattle.st_block.proofs.keys.cmp_fronts.Goals as goal
 

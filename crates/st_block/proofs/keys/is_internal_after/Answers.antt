@@ -1,4 +1,4 @@
-use Rattle.std.proofs.Common.{◌++◌, ◌+◌, ◌-◌, length, take, Less, Equal, Greater, arith}
+use Rattle.std.proofs.Common.{◌++◌, ◌+◌, ◌-◌, length, take, Less, Greater, arith}
 use Rattle.st_block.proofs.Fronts.{length_new, internal_is, internal_tied}
 use Rattle.st_block.proofs.keys.is_internal_after.Goals as goal
 

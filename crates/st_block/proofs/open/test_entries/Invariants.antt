@@ -1,4 +1,4 @@
-use Rattle.std.proofs.Common.{ℕ, List, ◌-◌, length}
+use Rattle.std.proofs.Common.{List, ◌-◌, length}
 use Rattle.st_block.specs.Block.{Cell}
 use Rattle.st_block.specs.Entry.{AreRead}
 use Rattle.st_block.proofs.open.test_entries.Given as goal

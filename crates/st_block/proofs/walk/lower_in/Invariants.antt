@@ -1,5 +1,5 @@
-use Rattle.std.proofs.Common.{◌≡◌, ◌-◌, take}
-use Rattle.st_block.specs.Place.{Stands, cells_at, cells_in, contents_in, cells_from_place}
+use Rattle.std.proofs.Common.{◌≡◌, ◌-◌}
+use Rattle.st_block.specs.Place.{Stands, cells_at, contents_in, cells_from_place}
 use Rattle.st_block.proofs.walk.lower_in.Given as goal
 
 abbrev pub invariant-loop-read : goal.invariant-loop-read

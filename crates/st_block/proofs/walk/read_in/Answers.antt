@@ -1,8 +1,7 @@
-use Rattle.std.proofs.Common.{◌≡◌, take, length, [], List, sym, subst, refl, arith, ℕ}
-use Rattle.std.specs.Prelude.{slice_range}
+use Rattle.std.proofs.Common.{◌≡◌, take, length, [], sym, subst, refl, arith, ℕ}
 use Rattle.std.proofs.lemmas.List.{length-take}
 use Rattle.st_block.specs.Entry.{cell_of}
-use Rattle.st_block.specs.Place.{cells_at, cells_in, contents_in}
+use Rattle.st_block.specs.Place.{cells_at, contents_in}
 use Rattle.st_block.proofs.Laid.{entries_laid}
 use Rattle.st_block.proofs.Places.{end_none, never_none, takes}
 use Rattle.st_block.proofs.Choices.{some_map, none_map}

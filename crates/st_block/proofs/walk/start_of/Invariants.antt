@@ -1,4 +1,4 @@
-use Rattle.std.proofs.Common.{◌≡◌, ◌+◌, ◌-◌, ◌*◌, ◌<◌, ◌≤◌, List, take, drop}
+use Rattle.std.proofs.Common.{◌+◌, ◌-◌, ◌*◌, ◌<◌, ◌≤◌, drop}
 use Rattle.std.specs.Int.{w32, from_le_bytes}
 use Rattle.st_block.specs.Search.{IsStart}
 use Rattle.st_block.proofs.walk.start_of.Given as goal

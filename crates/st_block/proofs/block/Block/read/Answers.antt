@@ -1,6 +1,5 @@
-use Rattle.std.proofs.Common.{◌≡◌, ◌+◌, ℕ, List, take, subst, sym, ap, ◌∙◌}
+use Rattle.std.proofs.Common.{◌≡◌, ◌+◌, ℕ, List, take, subst, ap, ◌∙◌}
 use Rattle.std.specs.Prelude.{slice_range}
-use Rattle.st_block.specs.Block.{Cell}
 use Rattle.st_block.specs.Place.{Contents, Takes, contents_in}
 use Rattle.st_block.proofs.block.Block.read.Goals as goal
 

@@ -1,6 +1,6 @@
-use Rattle.std.proofs.Common.{◌≡◌, ◌+◌, take, length, subst, sym, refl, arith}
+use Rattle.std.proofs.Common.{◌≡◌, ◌+◌, subst}
 use Rattle.std.specs.Prelude.{slice_range}
-use Rattle.st_block.specs.Place.{Stands, cells_at, contents_in, Contents}
+use Rattle.st_block.specs.Place.{Stands, cells_at, Contents}
 use Rattle.st_block.proofs.Searching.{from_start}
 use Rattle.st_block.proofs.block.Block.start.Goals as goal
 
