@@ -16,7 +16,9 @@ base=$(seconds crc 1)
 blocks=16000
 opens=200000
 lowers=5000000
-less() { awk -v a="$1" -v b="$base" 'BEGIN { d = a - b; printf "%.3f\n", d > 0.001 ? d : 0.001 }'; }
-echo "crc32c: $(per_second $((blocks * 65536)) "$(less "$(seconds crc $blocks)")") bytes per second"
-echo "Block::open: $(per_second $((opens * 100)) "$(less "$(seconds open $opens)")") entries per second"
-echo "Block::lower: $(per_second $lowers "$(less "$(seconds lower $lowers)")") searches per second"
+without_base() { # seconds, without those of a run that does each once
+  awk -v a="$1" -v b="$base" 'BEGIN { d = a - b; if (d < 0.001) d = 0.001; printf "%.3f\n", d }'
+}
+echo "crc32c: $(per_second $((blocks * 65536)) "$(without_base "$(seconds crc $blocks)")") bytes per second"
+echo "Block::open: $(per_second $((opens * 100)) "$(without_base "$(seconds open $opens)")") entries per second"
+echo "Block::lower: $(per_second $lowers "$(without_base "$(seconds lower $lowers)")") searches per second"
