@@ -1,6 +1,9 @@
-//! Measures sums: `crc N` sums N blocks of 65,536 bytes, and prints the sum. The time is taken by the script around it.
-//! Without words it sums one block.
+//! Measures sums and blocks. `crc N` sums N blocks of 65,536 bytes, and prints the sum. `open N` writes a block of 100
+//! entries, opens it N times, and prints how many entries were tested. `lower N` looks for N places in it, and prints the
+//! sum of the places. The time is taken by the script around it. Without words it does each once.
 #![tactic(auto)]
+
+mod blocks;
 
 use st_base::Bytes;
 use st_code::Crc;
@@ -9,7 +12,7 @@ use std::rt::Env;
 use std::{env, io};
 
 // So many bytes that differ from place to place.
-fn block(alloc: Global, length: usize) -> Result<Bytes, AllocError> {
+fn some_bytes(alloc: Global, length: usize) -> Result<Bytes, AllocError> {
     let mut bytes = Bytes::new(alloc);
     for place in 0..length {
         bytes.push((place % 251) as u8)?;
@@ -17,29 +20,47 @@ fn block(alloc: Global, length: usize) -> Result<Bytes, AllocError> {
     Ok(bytes)
 }
 
-// The sum of the block, taken so many times.
-fn sum_of(block: &[u8], times: u64) -> u32 {
+// The sum of the bytes, taken so many times.
+fn sum_of(bytes: &[u8], times: u64) -> u32 {
     let mut sum = Crc::start();
     for _ in 0..times {
-        sum.update(block);
+        sum.update(bytes);
     }
     sum.finish()
 }
 
-// The number in the second word, or 1.
-fn times_of(rt: &(impl Env + Alloc)) -> io::Result<u64> {
+// What is measured, and how often.
+#[derive(Drop)]
+struct Job {
+    crc: u64,
+    open: u64,
+    lower: u64,
+}
+
+// The job that the words name.
+fn job_of(rt: &(impl Env + Alloc)) -> io::Result<Job> {
     let mut words = env::args(rt)?;
     let _program = words.next();
-    let _what = words.next();
-    match words.next() {
-        Some(word) => Ok(word.as_str().parse::<u64>().unwrap_or(1)),
-        None => Ok(1),
-    }
+    let (Some(what), Some(many)) = (words.next(), words.next()) else {
+        return Ok(Job {
+            crc: 1,
+            open: 1,
+            lower: 1,
+        });
+    };
+    let many = many.as_str().parse::<u64>().unwrap_or(1);
+    let many_if = |word: &str| if what.as_str() == word { many } else { 1 };
+    Ok(Job {
+        crc: many_if("crc"),
+        open: many_if("open"),
+        lower: many_if("lower"),
+    })
 }
 
 fn main(rt: HostRuntime) -> io::Result<()> {
-    let times = times_of(&rt)?;
-    let bytes = block(rt.alloc(), 65_536)?;
-    let sum = sum_of(bytes.as_slice(), times);
-    println!(rt; "crc32c of {times} blocks: {sum}")
+    let job = job_of(&rt)?;
+    let bytes = some_bytes(rt.alloc(), 65_536)?;
+    let crc = sum_of(bytes.as_slice(), job.crc);
+    let (entries, places) = blocks::measure(rt.alloc(), job.open, job.lower)?;
+    println!(rt; "crc32c {crc}, {entries} entries, places {places}")
 }
