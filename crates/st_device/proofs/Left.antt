@@ -1,12 +1,11 @@
 -- What a crash leaves of a disk in memory.
-use Rattle.std.proofs.Common.{◌≡◌, ◌⊎◌, ℕ, ◌+◌, ◌<◌, ◌≤◌, List, [], ◌∷◌, ◌++◌, length, Option, Some, None, refl, sym, ◌∙◌, ap, subst, arith}
+use Rattle.std.proofs.Common.{◌≡◌, ◌⊎◌, ℕ, ◌+◌, ◌<◌, ◌≤◌, List, [], ◌∷◌, ◌++◌, length, Option, Some, None, sym, ◌∙◌, ap, subst}
 use Rattle.std.specs.Prelude.{Result, Ok, Err, OnOk}
 use Rattle.st_device.specs.Count.{greatest_count}
-use Rattle.st_device.specs.Disk.{Image, Changes, Both, Torn, There}
+use Rattle.st_device.specs.Disk.{Image, Changes, Both, Torn}
 use Rattle.st_device.specs.Files.{put, over}
 use Rattle.st_device.specs.Memory.{file_of, written, becomes, MayBecome, changed, reads_of, now_of}
 use Rattle.st_device.specs.declared.step.Step.{Step}
-use Rattle.st_device.specs.declared.step.Step.TheVariants.{Create, Write, Tear, Sync, Remove}
 use Rattle.st_device.proofs.Held.{put_itself}
 use Rattle.st_device.proofs.Record.{changes_put, torn_over, written_past, reads_push, now_pushed, honest_told}
 

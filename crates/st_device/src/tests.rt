@@ -1,5 +1,7 @@
+ghost use Rattle.std.specs.Prelude.{◌≡◌, None};
+ghost use Rattle.st_device.specs.Disk.{IsHonest};
+
 use super::*;
-use st_base::List;
 use std::alloc::Global;
 use std::fs;
 use std::test::Fail;
@@ -69,13 +71,16 @@ fn a_listed_call_fails(rt: HostRuntime) -> Result<(), Fail> {
     Ok(())
 }
 
-// Makes file 4, names the files, and removes it again.
-fn come_and_go<D: Disk>(alloc: Global, disk: &mut D) -> Result<(List<u64>, Vec<u8>), Fail> {
+// Makes file 4 of two bytes, reads it, and removes it again.
+fn come_and_go<D: Disk>(disk: &mut D) -> Result<[u8; 3], Failed>
+    requires { IsHonest (D.tells disk.old) → (D.tells disk.old).reads 4 ≡ None }
+{
     write_durably(disk, 4, b"pq")?;
-    let bytes = bytes_of(alloc, disk, 4)?;
-    let names = disk.files(alloc)?;
+    let mut bytes = [7u8; 3];
+    let count = disk.read(4, 0, &mut bytes)?;
     disk.remove(4)?;
-    Ok((names, bytes))
+    bytes[2] = count as u8;
+    Ok(bytes)
 }
 
 #[test]
@@ -83,19 +88,20 @@ fn each_disk_keeps_a_file(rt: HostRuntime) -> Result<(), Fail> {
     let alloc = rt.alloc();
     let mut folder = FolderDisk::new(rt.clone()?);
     assert_eq!(rt; folder.files(alloc)?.len(), 0);
-    let (names, bytes) = come_and_go(alloc, &mut folder)?;
-    assert_eq!(rt; names.as_slice(), [4].as_slice());
-    assert_eq!(rt; bytes.as_slice(), b"pq".as_slice());
+    assert_eq!(rt; come_and_go(&mut folder)?.as_slice(), b"pq\x02".as_slice());
+    folder.create(2)?;
     fs::write(&rt, "db/f3", "no file of the disk")?;
-    assert_eq!(rt; folder.files(alloc)?.len(), 0);
+    assert_eq!(rt; folder.files(alloc)?.as_slice(), [2].as_slice());
     assert_eq!(rt; folder.faults(), 0);
     let mut unrecorded = UnrecordedDisk::new(alloc);
-    let (names, bytes) = come_and_go(alloc, &mut unrecorded)?;
-    assert_eq!(rt; names.as_slice(), [4].as_slice());
-    assert_eq!(rt; bytes.as_slice(), b"pq".as_slice());
+    assert_eq!(rt;
+        come_and_go(&mut unrecorded)?.as_slice(),
+        b"pq\x02".as_slice()
+    );
     let mut memory = MemDisk::new(alloc, Vec::new(alloc));
-    let (names, bytes) = come_and_go(alloc, &mut memory)?;
-    assert_eq!(rt; names.as_slice(), [4].as_slice());
-    assert_eq!(rt; bytes.as_slice(), b"pq".as_slice());
+    memory.create(3)?;
+    assert_eq!(rt; memory.files(alloc)?.as_slice(), [3].as_slice());
+    let mut memory = MemDisk::new(alloc, Vec::new(alloc));
+    assert_eq!(rt; come_and_go(&mut memory)?.as_slice(), b"pq\x02".as_slice());
     Ok(())
 }

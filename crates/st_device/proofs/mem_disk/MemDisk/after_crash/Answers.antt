@@ -2,7 +2,7 @@ use Rattle.std.proofs.Common.{◌≡◌, ◌∙◌, take, List, [], ℕ, ap, ari
 use Rattle.std.proofs.lemmas.List.{take_all}
 use Rattle.st_device.specs.Count.{greatest_count}
 use Rattle.st_device.specs.Files.{image_of}
-use Rattle.st_device.specs.Memory.{reads_of, now_of}
+use Rattle.st_device.specs.Memory.{reads_of}
 use Rattle.st_device.specs.declared.step.Step.{Step}
 use Rattle.st_device.proofs.Record.{reads_start}
 use Rattle.st_device.proofs.Left.{durable_start, last_left}
