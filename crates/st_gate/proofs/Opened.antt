@@ -20,10 +20,10 @@ pub record LogAt (kind bytes : List ℕ) (payloads : List (List ℕ)) (at : ℕ)
   pub shut : get_or bytes at 1 ≢ 1
   pub same : (c : List ℕ) → at < length c → take at c ≡ take at bytes → log_of kind c ≡ fronts payloads (scan at 0 (drop at c))
 
-log_true : (kind bytes : List ℕ) → bytes_eq (take 8 bytes) kind ≡ true → log_of kind bytes ≡ scan 8 0 (drop 8 bytes)
+pub log_true : (kind bytes : List ℕ) → bytes_eq (take 8 bytes) kind ≡ true → log_of kind bytes ≡ scan 8 0 (drop 8 bytes)
 log_true kind bytes is = rw is
 
-log_false : (kind bytes : List ℕ) → bytes_eq (take 8 bytes) kind ≡ false → log_of kind bytes ≡ Bad [] 0
+pub log_false : (kind bytes : List ℕ) → bytes_eq (take 8 bytes) kind ≡ false → log_of kind bytes ≡ Bad [] 0
 log_false kind bytes is = rw is
 
 log_begins : (kind bytes : List ℕ) (payloads : List (List ℕ)) (at : ℕ) → bytes_eq (take 8 bytes) kind ≡ true → scan 8 0 (drop 8 bytes) ≡ Good payloads at → LogAt kind bytes payloads at

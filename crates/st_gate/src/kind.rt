@@ -50,5 +50,6 @@ pub fn has_kind(bytes: &[u8], kind: LogKind) -> bool
     ensures { result ≡ bytes_eq (take 8 bytes.now) (kind_bytes kind) }
 {
     let size = bytes.len().min(8);
-    &bytes[..size] == &first_bytes(kind)[..8]
+    let first = first_bytes(kind);
+    &bytes[..size] == &first[..8]
 }

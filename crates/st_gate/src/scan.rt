@@ -1,5 +1,5 @@
 // All records are read.
-ghost use Rattle.std.specs.Prelude.{◌≡◌, ◌<◌, ◌≤◌, drop, length, IfOk};
+ghost use Rattle.std.specs.Prelude.{◌≡◌, drop, IfOk};
 ghost use Rattle.st_gate.specs.Damage.{IsPlaced, ended};
 ghost use Rattle.st_gate.specs.Kind.{kind_bytes};
 ghost use Rattle.st_gate.specs.Log.{log_of, scan};
@@ -27,19 +27,21 @@ pub struct Scanned {
 
 // The records behind the kind.
 fn read_records(alloc: Global, bytes: &[u8]) -> Result<Scanned, AllocError>
-    requires { 8 ≤ length bytes.now }
     ensures placed { IfOk result (λ scanned. IsPlaced scanned.end) }
     ensures told { IfOk result (λ scanned. scan 8 0 (drop 8 bytes.now) ≡ ended scanned.records scanned.end) }
 {
     let mut records = List::new(alloc);
-    let mut at = 8;
+    let mut at: usize = 8;
     while at < bytes.len() {
         match read_record(alloc, bytes, at)? {
             Found::End => {
                 let end = LogEnd::Gate(at as u64);
                 return Ok(Scanned { records, end });
             }
-            Found::Damage => break,
+            Found::Damage => {
+                let end = LogEnd::Damage(at as u64);
+                return Ok(Scanned { records, end });
+            }
             Found::Record(payload) => {
                 let next = at + 9 + payload.len();
                 records.push(payload)?;
@@ -56,7 +58,7 @@ pub fn scan_log(alloc: Global, bytes: &[u8], kind: LogKind) -> Result<Scanned, A
     ensures placed { IfOk result (λ scanned. IsPlaced scanned.end) }
     ensures told { IfOk result (λ scanned. log_of (kind_bytes kind) bytes.now ≡ ended scanned.records scanned.end) }
 {
-    if bytes.len() < 8 || !has_kind(bytes, kind) {
+    if !has_kind(bytes, kind) {
         let end = LogEnd::Damage(0);
         return Ok(Scanned {
             records: List::new(alloc),

@@ -4,8 +4,7 @@ ghost use Rattle.st_device.specs.Count.{Rose, greatest_count};
 ghost use Rattle.st_device.specs.Disk.{IsHonest, IsDurable, Passes, OnlyFile, There, Both, Holds};
 ghost use Rattle.st_gate.specs.Log.{KeepsFront, IsStaged, IsGateTouched, sum_of};
 
-use crate::head::head_of;
-use st_code::crc32c;
+use crate::head::{head_of, sum_of};
 use st_device::{Disk, Failed};
 
 /// Writes behind the gate at a place, in pieces, the head, the payload and a closed gate, and syncs.
@@ -23,8 +22,7 @@ pub fn stage<D: Disk>(disk: &mut D, file: u64, at: u64, payload: &[u8]) -> Resul
     ensures cause { IsErr result → Rose (D.tells disk.old).faults (D.tells disk.new).faults }
 {
     let size = payload.len();
-    let sum = crc32c(payload);
-    let head = head_of(size as u32, sum);
+    let head = head_of(size as u32, sum_of(payload));
     disk.write(file, at + 1, &head)?;
     disk.write(file, at + 9, payload)?;
     disk.write(file, at + 9 + size as u64, &[0])?;
