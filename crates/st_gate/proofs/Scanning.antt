@@ -68,7 +68,7 @@ open_scan at gate bytes payload is whole = rw is (ap (λ (o : Option (List ℕ))
 pub none_scan : (at gate : ℕ) (bytes : List ℕ) → gate ≡ 1 → record_at bytes ≡ None → scan at 0 (gate ∷ bytes) ≡ Bad [] at
 none_scan at gate bytes is none = rw is (ap (λ (o : Option (List ℕ)). opened at bytes o) none)
 
-front_good : (payload : List ℕ) (r : Replayed) (payloads : List (List ℕ)) (end : ℕ) → front payload r ≡ Good payloads end → (rest : List (List ℕ)) × (payloads ≡ payload ∷ rest) × (r ≡ Good rest end)
+pub front_good : (payload : List ℕ) (r : Replayed) (payloads : List (List ℕ)) (end : ℕ) → front payload r ≡ Good payloads end → (rest : List (List ℕ)) × (payloads ≡ payload ∷ rest) × (r ≡ Good rest end)
 front_good payload (Good rest at) payloads end is = (rest, cc, cc)
 front_good payload (Bad ps at) payloads end is = absurd (cc is)
 
