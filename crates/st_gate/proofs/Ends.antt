@@ -1,15 +1,14 @@
 -- The closed gate of a whole log stands behind its records.
-use Rattle.std.proofs.Common.{◌≡◌, ◌⊎◌, inl, inr, ℕ, zero, suc, ◌+◌, List, [], ◌∷◌, length, Option, Some, None, true, false, refl, sym, ◌∙◌, ap, subst, take, drop, bytes_eq}
+use Rattle.std.proofs.Common.{◌≡◌, ◌⊎◌, inl, inr, ℕ, zero, suc, ◌+◌, List, [], ◌∷◌, ◌++◌, length, Option, Some, None, true, false, refl, sym, ◌∙◌, ap, subst, take, drop, bytes_eq}
 use Rattle.std.proofs.lemmas.Bool.{cases_eq}
-use Rattle.st_gate.specs.Log.{Replayed, scan, record_at, log_of, replayed}
+use Rattle.st_gate.specs.Log.{Replayed, scan, record_at, log_of, replayed, end_of}
 use Rattle.st_gate.specs.Log.Replayed.{Good, Bad}
 use Rattle.st_gate.proofs.Scanning.{shut_scan, open_scan, none_scan, front_good}
 use Rattle.st_gate.proofs.Opened.{log_true, log_false}
 
--- the place behind records whose first gate has this place
-abbrev pub end_of : ℕ → List (List ℕ) → ℕ
-end_of at [] = at
-end_of at (payload ∷ payloads) = end_of (at + 9 + length payload) payloads
+pub end_push : (payloads : List (List ℕ)) (payload : List ℕ) (at : ℕ) → end_of at (payloads ++ payload ∷ []) ≡ end_of at payloads + 9 + length payload
+end_push [] payload at = refl
+end_push (p ∷ payloads) payload at = end_push payloads payload (at + 9 + length p)
 
 scan_ends : (bytes : List ℕ) (at skip : ℕ) (payloads : List (List ℕ)) (end : ℕ) → scan at skip bytes ≡ Good payloads end → end_of at payloads ≡ end
 scan_ends [] at skip payloads end is = absurd (cc is)

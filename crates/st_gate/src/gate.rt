@@ -45,7 +45,7 @@ pub struct GateLog {
 }
 
 impl GateLog {
-    ghost use Rattle.st_gate.specs.Log.{IsBeforeOrAfter, replayed};
+    ghost use Rattle.st_gate.specs.Log.{IsBeforeOrAfter, end_of, replayed};
     ghost use Rattle.st_gate.specs.Log.Replayed.{Good};
     ghost use Rattle.st_gate.specs.Kind.{kind_bytes};
     ghost use Rattle.st_gate.specs.Rest.{IsAtRest, records, log_on};
@@ -77,6 +77,7 @@ impl GateLog {
     ) -> Result<Scanned, ReadFault>
         ensures told { IsHonest (D.tells disk.old) → IfOk result (λ scanned. replayed (kind_bytes kind) ((D.tells disk.old).reads file) ≡ ended scanned.records scanned.end) }
         ensures placed { IfOk result (λ scanned. IsPlaced scanned.end) }
+        ensures gates { IfOk result (λ scanned. end_of 8 scanned.records < greatest_count) }
         ensures untouched { Untouched (D.tells disk.old) (D.tells disk.new) }
         ensures passes { Passes (D.tells disk.old) (D.tells disk.new) }
         ensures top { (D.tells disk.new).top ≡ (D.tells disk.old).top }

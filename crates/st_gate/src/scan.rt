@@ -1,8 +1,9 @@
 // All records are read.
-ghost use Rattle.std.specs.Prelude.{◌≡◌, drop, IfOk};
+ghost use Rattle.std.specs.Prelude.{◌≡◌, ◌<◌, drop, IfOk};
+ghost use Rattle.st_device.specs.Count.{greatest_count};
 ghost use Rattle.st_gate.specs.Damage.{IsPlaced, ended};
 ghost use Rattle.st_gate.specs.Kind.{kind_bytes};
-ghost use Rattle.st_gate.specs.Log.{log_of, scan};
+ghost use Rattle.st_gate.specs.Log.{end_of, log_of, scan};
 
 use crate::kind::{LogKind, has_kind};
 use crate::record::{Found, read_record};
@@ -28,6 +29,7 @@ pub struct Scanned {
 // The records behind the kind.
 fn read_records(alloc: Global, bytes: &[u8]) -> Result<Scanned, AllocError>
     ensures placed { IfOk result (λ scanned. IsPlaced scanned.end) }
+    ensures gates { IfOk result (λ scanned. end_of 8 scanned.records < greatest_count) }
     ensures told { IfOk result (λ scanned. scan 8 0 (drop 8 bytes.now) ≡ ended scanned.records scanned.end) }
 {
     let mut records = List::new(alloc);
@@ -56,6 +58,7 @@ fn read_records(alloc: Global, bytes: &[u8]) -> Result<Scanned, AllocError>
 /// The records of a log of this kind with these bytes.
 pub fn scan_log(alloc: Global, bytes: &[u8], kind: LogKind) -> Result<Scanned, AllocError>
     ensures placed { IfOk result (λ scanned. IsPlaced scanned.end) }
+    ensures gates { IfOk result (λ scanned. end_of 8 scanned.records < greatest_count) }
     ensures told { IfOk result (λ scanned. log_of (kind_bytes kind) bytes.now ≡ ended scanned.records scanned.end) }
 {
     if !has_kind(bytes, kind) {

@@ -10,8 +10,7 @@ use Rattle.st_base.specs.declared.entry.Mark.TheVariants.{Put, Gone}
 use Rattle.st_code.specs.Fixed.{fixed32, fixed64, fixed32_at, fixed64_at}
 use Rattle.st_code.specs.Varint.{varint, varint32_at, shortest}
 use Rattle.st_code.proofs.Forms.{form_read, shortest_form, shortest_same, fixed64_again}
-use Rattle.st_wal.specs.Batch.{Operation, placed_text, text_at, headed, head_at, text, marked, with_key, operation_at, operations_at, are_numbers, batch_from, batch_of, written_text, written_operation, written_operations, mark_size, operations_size, FitsMark, FitsOperation}
-use Rattle.st_wal.specs.declared.batch.Batch.{Batch}
+use Rattle.st_wal.specs.Batch.{Operation, Batch, placed_text, text_at, headed, head_at, text, marked, with_key, operation_at, operations_at, are_numbers, batch_from, batch_of, written_text, written_operation, written_operations, mark_size, operations_size, FitsMark, FitsOperation}
 use Rattle.st_wal.proofs.Counted.{step_is, stepped}
 
 -- ---- numbers

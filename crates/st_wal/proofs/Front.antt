@@ -7,11 +7,11 @@ use Rattle.st_gate.specs.Log.{Replayed, replayed, IsBeforeOrAfter}
 use Rattle.st_gate.specs.Log.Replayed.{Good, Bad}
 use Rattle.st_gate.specs.declared.kind.LogKind.{LogKind}
 use Rattle.st_gate.specs.declared.kind.LogKind.TheVariants.{Log}
-use Rattle.st_gate.proofs.Ends.{end_of, replayed_ends}
-use Rattle.st_wal.specs.Batch.{batch_of}
-use Rattle.st_wal.specs.Wal.{Operations, logged_batch, logged_found, logged_record, in_front, record_in_front, operations_from, operations_of, read_as_log, IsWithOrWithout}
-use Rattle.st_wal.specs.Wal.Operations.{Whole, Broken}
-use Rattle.st_wal.specs.declared.batch.Batch.{Batch}
+use Rattle.st_gate.specs.Log.{end_of}
+use Rattle.st_gate.proofs.Ends.{replayed_ends}
+use Rattle.st_wal.specs.Batch.{Batch, batch_of}
+use Rattle.st_wal.specs.Logged.{Operations, logged_batch, logged_found, logged_record, in_front, record_in_front, operations_from, operations_of, read_as_log, IsWithOrWithout}
+use Rattle.st_wal.specs.Logged.Operations.{Whole, Broken}
 use Rattle.st_wal.specs.declared.logged.Logged.{Logged}
 
 from_push : (at : ℕ) (ps : List (List ℕ)) (p : List ℕ) (end : Operations) → operations_from at (ps ++ p ∷ []) end ≡ operations_from at ps (record_in_front (end_of at ps) (batch_of p) end)

@@ -9,11 +9,15 @@ use Rattle.st_base.specs.declared.entry.Mark.TheVariants.{Put, Gone}
 use Rattle.st_code.specs.declared.fault.CodeFault.{CodeFault}
 use Rattle.st_code.specs.Fixed.{fixed32, fixed64, fixed32_at, fixed64_at}
 use Rattle.st_code.specs.Varint.{varint, varint32_at}
-use Rattle.st_wal.specs.declared.batch.Batch.{Batch}
 
 -- a family, a key and a mark
 abbrev pub Operation : Type 0
 Operation = ℕ × List ℕ × Mark
+
+-- operations that take rising sequence numbers from the first on
+pub record Batch : Type 0 where
+  pub first : ℕ
+  pub operations : List Operation
 
 -- where a text of at most so many bytes begins and ends
 abbrev pub placed_text : ℕ → ℕ → Result (ℕ × ℕ) CodeFault → Option (ℕ × ℕ)

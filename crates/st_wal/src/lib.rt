@@ -10,7 +10,7 @@ mod logged;
 mod record;
 mod wal;
 
-pub use batch::{Batch, NUMBER_LIMIT, Operation};
+pub use batch::{NUMBER_LIMIT, Operation};
 pub use logged::Logged;
 pub use record::LogRecord;
 pub use wal::Wal;

@@ -5,8 +5,9 @@ use Rattle.st_gate.specs.Log.{IsBeforeOrAfter, replayed}
 use Rattle.st_gate.specs.Log.Replayed.{Good}
 use Rattle.st_gate.specs.Rest.{records}
 use Rattle.st_gate.specs.declared.kind.LogKind.{LogKind}
-use Rattle.st_wal.specs.Wal.{IsWithOrWithout, logged_record, operations, read_as_log, whole_operations}
-use Rattle.st_wal.specs.Wal.Operations.{Whole}
+use Rattle.st_wal.specs.Logged.{IsWithOrWithout, logged_record, read_as_log, whole_operations}
+use Rattle.st_wal.specs.Wal.{operations}
+use Rattle.st_wal.specs.Logged.Operations.{Whole}
 use Rattle.st_wal.proofs.Front.{either_log, more_log, ok_both}
 use Rattle.st_wal.proofs.wal.Wal.append.Goals as goal
 
@@ -33,15 +34,16 @@ returns-clause-ok g c = λ honest.
     let same = c.as_bytes.ensures.value in
     ok_both c.append.result
     (λ rest moved.
-        let far : new.at ≡ log.at + 9 + length payload = moved ∙ ap (λ (p : List ℕ). log.at + 9 + length p) same in
-        let all = rest.1 ∙ ap (λ (p : List ℕ). records log disk ++ p ∷ []) same in
-        let good = ap (λ (k : LogKind). replayed (kind_bytes k) (end.reads new.file)) (sym c.append.ensures.kind) ∙ rest.0.open_gate ∙ (λ i. Good (all i) (far i)) in
-        let whole = more_log log.kind ready.kind (records log disk) log.at (disk.reads log.file) (operations c.args.self.now disk) ready.rest.open_gate ready.whole (end.reads new.file) payload c.requires.kind good in
-        let ops = ap whole_operations whole in
-        (record {
-          kind = c.append.ensures.kind ∙ ready.kind;
-          rest = rest.0;
-          whole = whole ∙ (λ i. Whole (sym ops i) (sym far i));
-        },
-        ops))
+    let far : new.at ≡ log.at + 9 + length payload = moved ∙ ap (λ (p : List ℕ). log.at + 9 + length p) same in
+    let all = rest.1 ∙ ap (λ (p : List ℕ). records log disk ++ p ∷ []) same in
+    let good = ap (λ (k : LogKind). replayed (kind_bytes k) (end.reads new.file)) (sym c.append.ensures.kind) ∙ rest.0.open_gate ∙ (λ i. Good (all i) (far i)) in
+    let whole = more_log log.kind ready.kind (records log disk) log.at (disk.reads log.file) (operations c.args.self.now disk) ready.rest.open_gate ready.whole (end.reads new.file) payload c.requires.kind good in
+    let ops = ap whole_operations whole in (
+      record {
+        kind = c.append.ensures.kind ∙ ready.kind;
+        rest = rest.0;
+        whole = whole ∙ (λ i. Whole (sym ops i) (sym far i));
+      },
+      ops,
+    ))
     (c.append.ensures.ok honest) c.append.ensures.moved
