@@ -3,11 +3,11 @@
 --   first number (fixed64) | count (fixed32) | count times: kind (0 or 1) | family (fixed32) | key | value, for kind 1
 --
 -- A key and a value are their bytes behind their length, a varint32.
-use Rattle.std.specs.Prelude.{◌≡◌, ◌+◌, ◌==◌, ◌≤◌, ◌++◌, ◌&&◌, ◌∷◌, ℕ, zero, suc, nat_le, nat_lt, Bool, true, false, List, [], length, slice_get, slice_range, Option, Some, None, option_map, Result, Ok, Err, if◌then◌else◌}
+use Rattle.std.specs.Prelude.{◌+◌, ◌==◌, ◌≤◌, ◌++◌, ◌&&◌, ◌∷◌, ℕ, zero, suc, nat_le, nat_lt, Bool, true, false, List, [], length, slice_get, slice_range, Option, Some, None, option_map, Result, Ok, Err, if◌then◌else◌}
 use Rattle.st_base.specs.declared.entry.Mark.{Mark}
 use Rattle.st_base.specs.declared.entry.Mark.TheVariants.{Put, Gone}
 use Rattle.st_code.specs.declared.fault.CodeFault.{CodeFault}
-use Rattle.st_code.specs.Fixed.{fixed32, fixed64, fixed32_at, fixed64_at}
+use Rattle.st_code.specs.Fixed.{fixed32, fixed32_at, fixed64_at}
 use Rattle.st_code.specs.Varint.{varint, varint32_at}
 
 -- a family, a key and a mark

@@ -1,4 +1,4 @@
-use Rattle.std.proofs.Common.{◌≡◌, ◌<◌, ◌≤◌, ◌++◌, ◌∷◌, [], ◌∙◌, length, take, get_or, List, ℕ, ap, arith, sym, subst, append_assoc}
+use Rattle.std.proofs.Common.{◌<◌, ◌≤◌, ◌++◌, ◌∷◌, [], ◌∙◌, length, take, List, ℕ, ap, arith, sym, subst, append_assoc}
 use Rattle.std.proofs.lemmas.List.{take_all, take_more}
 use Rattle.st_code.specs.Fixed.{fixed32, fixed64}
 use Rattle.st_wal.specs.Batch.{Operation, batch_of, written_operation, written_operations}

@@ -1,4 +1,4 @@
-use Rattle.std.proofs.Common.{◌≡◌, ◌+◌, ◌++◌, ◌∷◌, [], ◌∙◌, List, ℕ, Option, length, ap, sym, subst}
+use Rattle.std.proofs.Common.{◌≡◌, ◌+◌, ◌++◌, ◌∷◌, [], ◌∙◌, List, ℕ, length, ap, sym, subst}
 use Rattle.st_device.proofs.File.{only_weaker}
 use Rattle.st_gate.specs.Kind.{kind_bytes}
 use Rattle.st_gate.specs.Log.{IsBeforeOrAfter, replayed}
