@@ -5,9 +5,8 @@
 use st_base::Bytes;
 use st_code::Crc;
 use std::alloc::{AllocError, Global};
-use std::env;
-use std::io;
 use std::rt::Env;
+use std::{env, io};
 
 // So many bytes that differ from place to place.
 fn block(alloc: Global, length: usize) -> Result<Bytes, AllocError> {

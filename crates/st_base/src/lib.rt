@@ -6,6 +6,7 @@
 
 mod entry;
 mod entry_ref;
+mod failed;
 mod family;
 mod fault;
 #[cfg(test)]
@@ -18,11 +19,14 @@ mod list;
 mod name;
 mod rows;
 mod scratch;
+#[cfg(test)]
+mod tests;
 mod value;
 
-pub use entry::{Entries, Entry, Mark};
+pub use entry::{Entries, Entry, KeyRange, Mark};
 pub use entry_ref::{EntryRef, MarkRef};
-pub use family::Family;
+pub use failed::Failed;
+pub use family::{Family, is_family};
 pub use fault::MakeFault;
 pub use faults::{BlockFault, TableFault};
 pub use key::Key;
@@ -32,7 +36,7 @@ pub use limits::{
     NAME_BYTES, VALUE_BYTES,
 };
 pub use list::{Bytes, List};
-pub use name::Name;
+pub use name::{Name, is_name};
 pub use rows::Rows;
 pub use scratch::Scratch;
 pub use value::Value;

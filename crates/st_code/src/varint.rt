@@ -11,6 +11,7 @@ fn read_within(bytes: &[u8], at: usize, left: u8) -> Result<(u64, usize), CodeFa
     requires { left ≤ 10 }
     ensures value { result ≡ placed at (below (2 ^ 64) (spelled left (drop at bytes.now))) }
     ensures within { IfOk result (λ found. found.1 ≤ length bytes.now) }
+    ensures behind { IfOk result (λ found. at < found.1) }
 {
     if left == 0 {
         return Err(CodeFault::TooLong);
@@ -35,6 +36,7 @@ fn read_within(bytes: &[u8], at: usize, left: u8) -> Result<(u64, usize), CodeFa
 pub fn read_varint(bytes: &[u8], at: usize) -> Result<(u64, usize), CodeFault>
     ensures value { result ≡ varint64_at bytes.now at }
     ensures within { IfOk result (λ found. found.1 ≤ length bytes.now) }
+    ensures behind { IfOk result (λ found. at < found.1) }
 {
     read_within(bytes, at, 10)
 }
@@ -45,6 +47,7 @@ pub fn read_varint(bytes: &[u8], at: usize) -> Result<(u64, usize), CodeFault>
 pub fn read_varint32(bytes: &[u8], at: usize) -> Result<(u32, usize), CodeFault>
     ensures value { result ≡ varint32_at bytes.now at }
     ensures within { IfOk result (λ found. found.1 ≤ length bytes.now) }
+    ensures behind { IfOk result (λ found. at < found.1) }
 {
     let (value, end) = read_within(bytes, at, 5)?;
     if value > u32::MAX as u64 {

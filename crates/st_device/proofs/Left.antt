@@ -1,7 +1,7 @@
 -- What a crash leaves of a disk in memory.
 use Rattle.std.proofs.Common.{◌≡◌, ◌⊎◌, ℕ, ◌+◌, ◌<◌, ◌≤◌, List, [], ◌∷◌, ◌++◌, length, Option, Some, None, sym, ◌∙◌, ap, subst}
 use Rattle.std.specs.Prelude.{Result, Ok, Err, OnOk}
-use Rattle.st_device.specs.Count.{greatest_count}
+use Rattle.st_base.specs.Count.{greatest_count}
 use Rattle.st_device.specs.Disk.{Image, Changes, Both, Torn}
 use Rattle.st_device.specs.Files.{put, over}
 use Rattle.st_device.specs.Memory.{file_of, written, becomes, MayBecome, changed, reads_of, now_of}

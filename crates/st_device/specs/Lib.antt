@@ -1,4 +1,3 @@
-pub mod Count
 pub mod Disk
 pub mod Files
 pub mod Laws

@@ -1,6 +1,6 @@
 -- When a disk in memory fails.
 use Rattle.std.specs.Prelude.{◌≡◌, ◌⊎◌, Bool, true, false, Contains, Result, Ok, Err, List, length, None}
-use Rattle.st_device.specs.Count.{Rose, greatest_count}
+use Rattle.st_base.specs.Count.{Rose, greatest_count}
 use Rattle.st_device.specs.Disk.{Told, IsNumbered}
 use Rattle.st_device.specs.Files.{image_of}
 use Rattle.st_device.specs.Memory.{told_of, reads_of, next_count}

@@ -1,6 +1,6 @@
 // Files by number, and what a crash may leave of them.
 ghost use Rattle.std.specs.Prelude.{◌≡◌, ◌+◌, ◌≤◌, ◌<◌, ◌↔◌, ℕ, length, IsSome, IsErr, IsErrOf, IfOk, OnOk, OnErr, option_map, Contains, All, None, max, is_ok};
-ghost use Rattle.st_device.specs.Count.{Rose, greatest_count};
+ghost use Rattle.st_base.specs.Count.{Rose, greatest_count};
 ghost use Rattle.st_device.specs.Disk.{Told, IsHonest, Clock, Passes, Untouched, Created, Wrote, Synced, Removed, There, Reads, IsRising, greatest, IsNumbered};
 
 use crate::Failed;

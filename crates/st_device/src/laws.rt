@@ -1,6 +1,6 @@
 // What a synced write and one that isn't synced leave.
 ghost use Rattle.std.specs.Prelude.{◌≡◌, ◌+◌, ◌≤◌, [], IsErr, OnOk, None, Some};
-ghost use Rattle.st_device.specs.Count.{Rose};
+ghost use Rattle.st_base.specs.Count.{Rose};
 ghost use Rattle.st_device.specs.Disk.{IsDurable, IsHonest, Passes};
 ghost use Rattle.st_device.specs.Laws.{IsAlone, IsEmptyDisk, MayBeLeft};
 ghost use Rattle.st_device.specs.MemDisk.{told};

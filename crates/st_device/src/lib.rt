@@ -1,14 +1,13 @@
-//! What the store sees of the outside: traits with a ghost meaning and a count of faults, a small form of each in
-//! memory, and the real ones.
+//! The disk as the store sees it: files by number, and what a crash may leave of them. The trait has a ghost meaning and
+//! a count of faults; beside it stand a disk in memory, which tells the images of every moment, and the one in a folder.
 //!
-//! A call answers `Failed` only where the count of that object rose in the call, or stands at its end. Code that is
-//! generic over these traits can't raise a count, so a layer above can't give up without a fault.
+//! A call answers `Failed` only where the count of that disk rose in the call, or stands at its end. Code that is generic
+//! over the trait can't raise a count, so a layer above can't give up without a fault.
 #![tactic(auto)]
 
 mod counts;
 mod crash;
 mod disk;
-mod failed;
 mod files;
 mod folder_disk;
 mod laws;
@@ -20,8 +19,8 @@ mod unrecorded_disk;
 
 pub use crash::Fate;
 pub use disk::{Disk, FilesFault};
-pub use failed::Failed;
 pub use folder_disk::FolderDisk;
 pub use laws::{write_durably, write_unsynced};
 pub use mem_disk::MemDisk;
+pub use st_base::Failed;
 pub use unrecorded_disk::UnrecordedDisk;

@@ -1,6 +1,6 @@
 // A disk in memory.
 ghost use Rattle.std.specs.Prelude.{◌≡◌, ◌+◌, ◌<◌, ◌≤◌, ◌↔◌, ℕ, List, Option, length, max, option_map, not, take, Contains, All, IfOk, IsErr, IsErrOf, IsSome, IsTrue, OnErr, OnOk, None, is_ok};
-ghost use Rattle.st_device.specs.Count.{Rose, greatest_count};
+ghost use Rattle.st_base.specs.Count.{Rose, greatest_count};
 ghost use Rattle.st_device.specs.Disk.{Image, IsDurable, IsHonest, Both, Torn, Passes, Untouched, Created, Wrote, Synced, Removed, There, Reads, IsRising, greatest};
 ghost use Rattle.st_device.specs.Files.{image_of, put};
 ghost use Rattle.st_device.specs.Memory.{reads_of, next_count};

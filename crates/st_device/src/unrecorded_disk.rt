@@ -1,6 +1,6 @@
 // A disk in memory without a record.
 ghost use Rattle.std.specs.Prelude.{◌≡◌, ◌≤◌, length, IsTrue, None};
-ghost use Rattle.st_device.specs.Count.{greatest_count};
+ghost use Rattle.st_base.specs.Count.{greatest_count};
 ghost use Rattle.st_device.specs.Disk.{There};
 ghost use Rattle.st_device.specs.Files.{image_of};
 

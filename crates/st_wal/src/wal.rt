@@ -1,6 +1,6 @@
 // The write-ahead log on a disk.
 ghost use Rattle.std.specs.Prelude.{◌≡◌, ◌+◌, ◌<◌, ◌≤◌, ◌++◌, ℕ, [], length, max, IsErr, IsErrOf, IfErr, IfOk, OnErr, OnOk, IsSome, None};
-ghost use Rattle.st_device.specs.Count.{Rose, greatest_count};
+ghost use Rattle.st_base.specs.Count.{Rose, greatest_count};
 ghost use Rattle.st_device.specs.Disk.{IsHonest, OnlyFile, Passes, Untouched};
 ghost use Rattle.st_gate.specs.Log.{end_of};
 ghost use Rattle.st_wal.specs.Logged.{Operations, found, operations_from};

@@ -1,6 +1,6 @@
 use Rattle.std.proofs.Common.{◌≡◌, ◌∙◌, take, List, [], ℕ, ap, arith, sym, subst, None}
 use Rattle.std.proofs.lemmas.List.{take_all}
-use Rattle.st_device.specs.Count.{greatest_count}
+use Rattle.st_base.specs.Count.{greatest_count}
 use Rattle.st_device.specs.Files.{image_of}
 use Rattle.st_device.specs.Memory.{reads_of}
 use Rattle.st_device.specs.declared.step.Step.{Step}

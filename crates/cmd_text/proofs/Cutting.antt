@@ -1,0 +1,82 @@
+-- The first part of a text that is cut at a byte.
+use Rattle.std.proofs.Common.{◌≡◌, ℕ, Bool, true, false, not, cond, ◌==◌, ◌<◌, ◌≤◌, ◌+◌, ◌-◌, nat_lt, suc, List, [], ◌∷◌, length, take, drop, length-drop, refl, sym, ap, ◌∙◌, subst, arith}
+use Rattle.std.specs.Prelude.{Some, None, position}
+use Rattle.std.specs.List.{slice_split, onto_first, position_or_len}
+use Rattle.std.proofs.lemmas.List.Splits.{slice_split_first, length-slice_split}
+use Rattle.std.proofs.lemmas.List.{drop_all, take_all}
+use Rattle.std.proofs.lemmas.Bool.Decides.{nat_tests}
+use Rattle.cmd_text.specs.Lines.{lines, words, without_empty_last}
+
+-- ---- a list that is cut where a test passes
+
+some-by : (b : Bool) (m n : ℕ) → nat_lt m n ≡ b → (i : ℕ) → cond b (Some m) None ≡ Some i → (m ≡ i) × (i < n)
+some-by true m n t i e = let same : m ≡ i = cc in (same, grind (arith, nat_tests))
+some-by false m n t i e = absurd (cc)
+
+none-by : (b : Bool) (m n : ℕ) → nat_lt m n ≡ b → cond b (Some m) None ≡ None → n ≤ m
+none-by true m n t e = absurd (cc)
+none-by false m n t e = grind (arith, nat_tests)
+
+-- the test passes first there
+pub position_some : {X : Type 0} (p : X → Bool) (xs : List X) (i : ℕ) → position p xs ≡ Some i → (position_or_len p xs ≡ i) × (i < length xs)
+position_some p xs i e = some-by (nat_lt (position_or_len p xs) (length xs)) (position_or_len p xs) (length xs) refl i e
+
+-- the test passes nowhere
+pub position_none : {X : Type 0} (p : X → Bool) (xs : List X) → position p xs ≡ None → length xs ≤ position_or_len p xs
+position_none p xs e = none-by (nat_lt (position_or_len p xs) (length xs)) (position_or_len p xs) (length xs) refl e
+
+whole-cons : {X : Type 0} (p : X → Bool) (x : X) (xs : List X) (b : Bool) → (length xs ≤ position_or_len p xs → slice_split p xs ≡ xs ∷ []) → suc (length xs) ≤ cond (not b) (1 + position_or_len p xs) 0 → cond b ([] ∷ slice_split p xs) (onto_first x (slice_split p xs)) ≡ (x ∷ xs) ∷ []
+whole-cons p x xs true others all = absurd (omega arith)
+whole-cons p x xs false others all = ap (onto_first x) (others (omega arith))
+
+-- where it passes nowhere, the list is the one part
+pub cut_whole : {X : Type 0} (p : X → Bool) (xs : List X) → length xs ≤ position_or_len p xs → slice_split p xs ≡ xs ∷ []
+cut_whole p [] all = refl
+cut_whole p (x ∷ xs) all = whole-cons p x xs (p x) (cut_whole p xs) all
+
+-- where it passes, the first part stands before that place
+pub cut_some : {X : Type 0} (p : X → Bool) (xs : List X) (d : X) (i : ℕ) → position p xs ≡ Some i → slice_split p xs ≡ take i xs ∷ slice_split p (drop (i + 1) xs)
+cut_some p xs d i e =
+    let at = position_some p xs i e in
+    subst (λ k. slice_split p xs ≡ take k xs ∷ slice_split p (drop (k + 1) xs)) at.0 (slice_split_first p xs d (omega arith))
+
+-- what stands from there on, as the code cuts it
+behind : {X : Type 0} (xs : List X) (n : ℕ) → take (length xs - n) (drop n xs) ≡ drop n xs
+behind xs n = take_all (length xs - n) (drop n xs) (omega (arith, length-drop n xs))
+
+-- ---- the lines of a text
+
+-- a part that isn't the last one stands
+without_empty_last-cons : (part : List ℕ) (parts : List (List ℕ)) → 0 < length parts → without_empty_last (part ∷ parts) ≡ part ∷ without_empty_last parts
+without_empty_last-cons part [] more = absurd (omega arith)
+without_empty_last-cons [] (next ∷ parts) more = refl
+without_empty_last-cons (byte ∷ bytes) (next ∷ parts) more = refl
+
+-- a line behind which a line feed stands
+pub lines_first : (text : List ℕ) (end : ℕ) → position (λ byte. byte == 10) text ≡ Some end → lines text ≡ take end text ∷ lines (take (length text - (end + 1)) (drop (end + 1) text))
+lines_first text end e =
+    let rest = drop (end + 1) text in
+    ap without_empty_last (cut_some (λ byte. byte == 10) text 0 end e)
+    ∙ without_empty_last-cons (take end text) (slice_split (λ byte. byte == 10) rest) (omega (arith, length-slice_split (λ byte. byte == 10) rest))
+    ∙ ap (λ left. take end text ∷ lines left) (sym (behind text (end + 1)))
+
+without_empty_last-one : (part : List ℕ) → 0 < length part → without_empty_last (part ∷ []) ≡ part ∷ []
+without_empty_last-one [] some = absurd (omega arith)
+without_empty_last-one (byte ∷ bytes) some = refl
+
+-- a line without one
+pub lines_last : (text : List ℕ) → 0 < length text → position (λ byte. byte == 10) text ≡ None → lines text ≡ text ∷ lines (take (length text - length text) (drop (length text) text))
+lines_last text some e =
+    ap without_empty_last (cut_whole (λ byte. byte == 10) text (position_none (λ byte. byte == 10) text e))
+    ∙ without_empty_last-one text some ∙ ap (λ rest. text ∷ lines rest) (sym (behind text (length text) ∙ drop_all (length text) text (omega arith)))
+
+-- ---- the words of a line
+
+-- a word behind which a space stands
+pub words_first : (line : List ℕ) (end : ℕ) → position (λ byte. byte == 32) line ≡ Some end → words line ≡ take end line ∷ words (take (length line - (end + 1)) (drop (end + 1) line))
+words_first line end e =
+    cut_some (λ byte. byte == 32) line 0 end e ∙ ap (λ left. take end line ∷ words left) (sym (behind line (end + 1)))
+
+-- the last word
+pub words_last : (line : List ℕ) → position (λ byte. byte == 32) line ≡ None → words line ≡ line ∷ []
+words_last line e = cut_whole (λ byte. byte == 32) line (position_none (λ byte. byte == 32) line e)

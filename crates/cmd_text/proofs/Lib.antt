@@ -1,0 +1,5 @@
+pub mod Cutting
+pub mod Behind
+pub mod Printing
+pub mod Spelling
+pub mod Joining

@@ -1,0 +1,124 @@
+ghost use Rattle.std.specs.Prelude.{◌≡◌, ◌<◌, ◌++◌, IfOk, OnOk, OnErr};
+ghost use Rattle.std.specs.Fmt.{decimal};
+ghost use Rattle.st_model.specs.Word.{hex_digit, byte_word, word};
+ghost use Rattle.st_model.specs.Line.{line_of};
+ghost use Rattle.cmd_text.specs.Replies.{Extends, refusal_text, reply_text};
+
+use crate::command::is_plain;
+use st_base::Bytes;
+use st_model::{Refusal, Reply};
+use std::alloc::{AllocError, Global};
+
+// The digit's byte: 0 to 9, then a to f.
+fn hex_digit(digit: u8) -> u8
+    requires { digit < 16 }
+    ensures { result ≡ hex_digit digit }
+{
+    if digit < 10 {
+        b'0' + digit
+    } else {
+        b'a' + (digit - 10)
+    }
+}
+
+// Puts the number's decimal digits at the end.
+#[tactic(auto, using(std::proofs::lemmas::Fmt::decimal_digit, std::proofs::lemmas::Fmt::decimal_step))]
+fn push_number(out: &mut Bytes, number: u64) -> Result<(), AllocError>
+    ensures ok { OnOk result (out.new ≡ out.old ++ decimal number) }
+    ensures err { OnErr result (Extends out.old out.new) }
+{
+    if number < 10 {
+        return out.push(b'0' + number as u8);
+    }
+    push_number(out, number / 10)?;
+    out.push(b'0' + (number % 10) as u8)
+}
+
+// Puts the byte's spelling at the end.
+fn push_byte(out: &mut Bytes, byte: u8) -> Result<(), AllocError>
+    ensures ok { OnOk result (out.new ≡ out.old ++ byte_word byte) }
+    ensures err { OnErr result (Extends out.old out.new) }
+{
+    if is_plain(byte) {
+        return out.push(byte);
+    }
+    let spelling = [b'\\', b'x', hex_digit(byte / 16), hex_digit(byte % 16)];
+    out.extend_from_slice(spelling.as_slice())
+}
+
+// Puts the spelling of the bytes at the end.
+fn push_word(out: &mut Bytes, bytes: &[u8]) -> Result<(), AllocError>
+    ensures ok { OnOk result (out.new ≡ out.old ++ word bytes.now) }
+    ensures err { OnErr result (Extends out.old out.new) }
+{
+    if bytes.is_empty() {
+        return out.extend_from_slice(b"\\e");
+    }
+    for byte in bytes {
+        push_byte(out, *byte)?;
+    }
+    Ok(())
+}
+
+// Puts the refusal's words at the end, each behind a space.
+fn push_refusal(out: &mut Bytes, refusal: &Refusal) -> Result<(), AllocError>
+    ensures ok { OnOk result (out.new ≡ out.old ++ refusal_text refusal.now) }
+    ensures err { OnErr result (Extends out.old out.new) }
+{
+    match refusal {
+        Refusal::Stopped => out.extend_from_slice(b" 10 Stopped"),
+        Refusal::UnknownFamily(family) => {
+            out.extend_from_slice(b" 11 UnknownFamily ")?;
+            out.extend_from_slice(family.as_bytes())
+        }
+        Refusal::NumbersSpent => out.extend_from_slice(b" 18 NumbersSpent"),
+        Refusal::StoreFull => out.extend_from_slice(b" 19 StoreFull"),
+        Refusal::DiskFault => out.extend_from_slice(b" 20 DiskFault"),
+        Refusal::OutOfMemory => Ok(()),
+    }
+}
+
+// Puts the reply's words at the end, each behind a space.
+#[tactic(auto, using(crate::proofs::Printing::written, crate::proofs::Printing::found, crate::proofs::Printing::refused))]
+fn push_reply_words(out: &mut Bytes, reply: &Reply) -> Result<(), AllocError>
+    ensures ok { OnOk result (out.new ≡ out.old ++ reply_text reply.now) }
+    ensures err { OnErr result (Extends out.old out.new) }
+{
+    match reply {
+        Reply::Written(number) => {
+            out.extend_from_slice(b" written ")?;
+            push_number(out, *number)
+        }
+        Reply::Found(value) => {
+            out.extend_from_slice(b" value ")?;
+            push_word(out, value.as_bytes())
+        }
+        Reply::Nothing => out.extend_from_slice(b" none"),
+        Reply::Refused(refusal) => {
+            out.extend_from_slice(b" refused")?;
+            push_refusal(out, refusal)
+        }
+    }
+}
+
+/// Puts the line of a place and its reply at the end, line feed included. An error leaves what was there, and
+/// maybe a part of the line behind it.
+#[tactic(auto, using(crate::proofs::Printing::line))]
+pub fn push_reply(out: &mut Bytes, place: u64, reply: &Reply) -> Result<(), AllocError>
+    ensures ok { OnOk result (out.new ≡ out.old ++ line_of place reply.now) }
+    ensures err { OnErr result (Extends out.old out.new) }
+{
+    push_number(out, place)?;
+    push_reply_words(out, reply)?;
+    out.push(b'\n')
+}
+
+/// The line of a place and its reply, line feed included: the place, then the reply's words, each behind a space.
+/// Bytes are spelled as one word; want of memory, as a refusal, has no printed form of its own.
+pub fn print_reply(alloc: Global, place: u64, reply: &Reply) -> Result<Bytes, AllocError>
+    ensures { IfOk result (λ line. line ≡ line_of place reply.now) }
+{
+    let mut line = Bytes::new(alloc);
+    push_reply(&mut line, place, reply)?;
+    Ok(line)
+}

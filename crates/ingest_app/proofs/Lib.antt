@@ -1,0 +1,4 @@
+pub mod Default
+pub mod Ends
+pub mod Printed
+pub mod Write

@@ -1,0 +1,5 @@
+pub mod Client
+pub mod Op
+pub mod Run
+pub mod Status
+pub mod Store

@@ -1,0 +1,44 @@
+//! The program: reads a client file, answers its commands in order, and writes its transcript.
+//!
+//! What is proved of the program stands on `run`, which `main` calls over the files of the working folder and standard
+//! output.
+#![tactic(auto)]
+
+mod client;
+mod outcome;
+mod run;
+mod status;
+mod store;
+#[cfg(test)]
+mod tests;
+
+pub use run::run;
+use st_stream::{FolderInputs, StdSink};
+pub use status::Status;
+use std::env::{self, Env};
+use std::io;
+use std::process::ExitCode;
+use std::rt::Files;
+
+// The words of the command line, without the program's name.
+fn words_of<R: Env + AllocGlobal>(rt: &R) -> io::Result<Vec<String>> {
+    let mut words = Vec::new(rt.alloc());
+    for word in env::args(rt)?.skip(1) {
+        words.push(word)?;
+    }
+    Ok(words)
+}
+
+// Runs the words over the working folder and standard output.
+fn run_here<R: Files + Print + Env + AllocGlobal + Clone>(rt: &R) -> io::Result<Status> {
+    let words = words_of(rt)?;
+    let mut inputs = FolderInputs::new(rt.clone()?);
+    let mut sink = StdSink::new(rt.clone()?);
+    Ok(run(rt.alloc(), words.as_slice(), &mut inputs, &mut sink))
+}
+
+// Only want of memory keeps the words from being read.
+fn main(rt: HostRuntime) -> ExitCode {
+    let status = run_here(&rt).unwrap_or(Status::Memory);
+    ExitCode::from(status.number())
+}

@@ -1,0 +1,35 @@
+ghost use Rattle.std.specs.Prelude.{◌≡◌};
+ghost use Rattle.ingest_app.specs.Status.{status_number};
+
+/// How a run ends.
+#[derive(Clone, Copy, Debug, PartialEq, Eq, Drop)]
+pub enum Status {
+    /// The transcript is written.
+    Done,
+    /// Memory is wanted, and nothing is written.
+    Memory,
+    /// The input files have failed: `input NAME` is written.
+    InputFault,
+    /// The sink has failed: a part of the text is written, from its beginning on.
+    SinkFault,
+    /// A client file isn't there, is too long, or has a faulty line: `script NAME LINE` is written.
+    Script,
+    /// The words are no form that is built so far: `notyet` is written.
+    NotYet,
+}
+
+impl Status {
+    /// The number with which the program ends.
+    pub fn number(self) -> u8
+        ensures { result ≡ status_number self }
+    {
+        match self {
+            Status::Done => 0,
+            Status::Memory => 3,
+            Status::InputFault => 4,
+            Status::SinkFault => 6,
+            Status::Script => 7,
+            Status::NotYet => 9,
+        }
+    }
+}

@@ -1,0 +1,11 @@
+pub mod Cells
+pub mod Choices
+pub mod Fronts
+pub mod Laid
+pub mod Layouts
+pub mod Meeting
+pub mod Offsets
+pub mod Places
+pub mod Searching
+pub mod Tested
+pub mod Writers

@@ -1,0 +1,121 @@
+-- Writing entries one behind the other.
+use Rattle.std.proofs.Common.{◌≡◌, ℕ, zero, suc, ◌+◌, ◌-◌, ◌/◌, ◌%◌, ◌<◌, ◌≤◌, ◌^◌, inl, inr, Bool, true, false, cond, eqb, ltb, List, [], ◌∷◌, ◌++◌, length, take, drop, refl, sym, ap, ◌∙◌, append_assoc, arith}
+use Rattle.std.specs.Prelude.{nat_eq}
+use Rattle.std.specs.List.{common_prefix_len, flat_map}
+use Rattle.std.proofs.lemmas.Bool.{cases_Bool, eqb-true}
+use Rattle.std.proofs.lemmas.List.{length-append, append-nil}
+use Rattle.st_code.specs.Fixed.{fixed32}
+use Rattle.st_code.specs.Varint.{varint, shortest}
+use Rattle.st_block.specs.Written.{Holds, IsWriting, Writing, added, entries_bytes, entry_bytes, finished, last_key, or_zero, restarts_of, shared_of, with_tail}
+
+-- ---- a common front
+
+pub front_end : (xs : List ℕ) → common_prefix_len nat_eq xs [] ≡ 0
+front_end [] = refl
+front_end (x ∷ xs) = refl
+
+pub front_kept : (xs ys : List ℕ) → take (common_prefix_len nat_eq xs ys) xs ++ drop (common_prefix_len nat_eq xs ys) ys ≡ ys
+front_kept [] ys = refl
+front_kept (x ∷ xs) [] = refl
+front_kept (x ∷ xs) (y ∷ ys) =
+    elim (cases_Bool (eqb x y)) [
+      | inl t ↦
+          let n = common_prefix_len nat_eq xs ys in
+          ap (λ (b : Bool). take (cond b (1 + n) 0) (x ∷ xs) ++ drop (cond b (1 + n) 0) (y ∷ ys)) t
+          ∙ ap (λ (k : ℕ). take k (x ∷ xs) ++ drop k (y ∷ ys)) (let k : 1 + n ≡ suc n = omega arith in k)
+          ∙ ap (λ (z : ℕ). z ∷ (take n xs ++ drop n ys)) (eqb-true x y t) ∙ ap (λ (l : List ℕ). y ∷ l) (front_kept xs ys)
+      | inr f ↦ ap (λ (b : Bool). take (cond b (1 + common_prefix_len nat_eq xs ys) 0) (x ∷ xs) ++ drop (cond b (1 + common_prefix_len nat_eq xs ys) 0) (y ∷ ys)) f
+    ]
+
+-- ---- one more at the end
+
+abbrev Pairs : Type 0
+Pairs = List (List ℕ × List ℕ)
+
+last_more : (before : List ℕ) (pairs : Pairs) (pair : List ℕ × List ℕ) → last_key before (pairs ++ pair ∷ []) ≡ pair.0
+last_more before [] pair = refl
+last_more before (one ∷ pairs) pair = last_more one.0 pairs pair
+
+entries_more : (interval count : ℕ) (before : List ℕ) (pairs : Pairs) (pair : List ℕ × List ℕ)
+    → entries_bytes interval count before (pairs ++ pair ∷ []) ≡ entries_bytes interval count before pairs ++ entry_bytes (shared_of interval (count + length pairs) (last_key before pairs) pair.0) pair.0 pair.1
+entries_more interval count before [] pair =
+    append-nil (entry_bytes (shared_of interval count before pair.0) pair.0 pair.1)
+    ∙ ap (λ (k : ℕ). entry_bytes (shared_of interval k before pair.0) pair.0 pair.1) (let k : count ≡ count + 0 = omega arith in k)
+entries_more interval count before (one ∷ pairs) pair =
+    let first = entry_bytes (shared_of interval count before one.0) one.0 one.1 in
+    ap (λ (l : List ℕ). first ++ l) (entries_more interval (count + 1) one.0 pairs pair)
+    ∙ sym (append_assoc first (entries_bytes interval (count + 1) one.0 pairs) (entry_bytes (shared_of interval (count + 1 + length pairs) (last_key one.0 pairs) pair.0) pair.0 pair.1))
+    ∙ ap (λ (k : ℕ). first ++ entries_bytes interval (count + 1) one.0 pairs ++ entry_bytes (shared_of interval k (last_key one.0 pairs) pair.0) pair.0 pair.1) (let k : count + 1 + length pairs ≡ count + suc (length pairs) = omega arith in k)
+
+restarts_more : (interval count at : ℕ) (before : List ℕ) (pairs : Pairs) (pair : List ℕ × List ℕ)
+    → restarts_of interval count at before (pairs ++ pair ∷ []) ≡ restarts_of interval count at before pairs ++ cond (eqb ((count + length pairs) % interval) 0) ((at + length (entries_bytes interval count before pairs)) ∷ []) []
+restarts_more interval count at before [] pair =
+    append-nil (cond (eqb (count % interval) 0) (at ∷ []) [])
+    ∙ ap (λ (k : ℕ). cond (eqb (k % interval) 0) (at ∷ []) []) (let k : count ≡ count + 0 = omega arith in k)
+    ∙ ap (λ (k : ℕ). cond (eqb ((count + 0) % interval) 0) (k ∷ []) []) (let k : at ≡ at + 0 = omega arith in k)
+restarts_more interval count at before (one ∷ pairs) pair =
+    let first = entry_bytes (shared_of interval count before one.0) one.0 one.1 in
+    let here = cond (eqb (count % interval) 0) (at ∷ []) [] in
+    let rest = restarts_of interval (count + 1) (at + length first) one.0 pairs in
+    let k : count + 1 + length pairs ≡ count + suc (length pairs) = omega arith in
+    let m : at + length first + length (entries_bytes interval (count + 1) one.0 pairs) ≡ at + length (first ++ entries_bytes interval (count + 1) one.0 pairs) = omega (arith, length-append first (entries_bytes interval (count + 1) one.0 pairs)) in
+    ap (λ (l : List ℕ). here ++ l) (restarts_more interval (count + 1) (at + length first) one.0 pairs pair)
+    ∙ sym (append_assoc here rest (cond (eqb ((count + 1 + length pairs) % interval) 0) ((at + length first + length (entries_bytes interval (count + 1) one.0 pairs)) ∷ []) []))
+    ∙ ap (λ (n : ℕ). here ++ rest ++ cond (eqb (n % interval) 0) ((at + length first + length (entries_bytes interval (count + 1) one.0 pairs)) ∷ []) []) k
+    ∙ ap (λ (n : ℕ). here ++ rest ++ cond (eqb ((count + suc (length pairs)) % interval) 0) (n ∷ []) []) m
+
+pub holds_more : (writing : Writing) (pairs : Pairs) (key value : List ℕ) → Holds writing pairs → Holds (added writing key value) (pairs ++ (key, value) ∷ [])
+holds_more writing pairs key value h =
+    let n : writing.count ≡ 0 + length pairs = omega (arith, h.count) in
+    record {
+      count = omega (arith, length-append pairs ((key, value) ∷ []), h.count);
+      entries = ap (λ (l : List ℕ). l ++ entry_bytes (shared_of writing.interval writing.count writing.last key) key value) h.entries
+          ∙ ap (λ (k : ℕ). entries_bytes writing.interval 0 [] pairs ++ entry_bytes (shared_of writing.interval k writing.last key) key value) n
+          ∙ ap (λ (l : List ℕ). entries_bytes writing.interval 0 [] pairs ++ entry_bytes (shared_of writing.interval (0 + length pairs) l key) key value) h.last
+          ∙ sym (entries_more writing.interval 0 [] pairs (key, value));
+      restarts = ap (λ (l : List ℕ). l ++ cond (eqb (writing.count % writing.interval) 0) (length writing.entries ∷ []) []) h.restarts
+          ∙ ap (λ (k : ℕ). restarts_of writing.interval 0 0 [] pairs ++ cond (eqb (k % writing.interval) 0) (length writing.entries ∷ []) []) n
+          ∙ ap (λ (l : List ℕ). restarts_of writing.interval 0 0 [] pairs ++ cond (eqb ((0 + length pairs) % writing.interval) 0) (length l ∷ []) []) h.entries
+          ∙ ap (λ (k : ℕ). restarts_of writing.interval 0 0 [] pairs ++ cond (eqb ((0 + length pairs) % writing.interval) 0) (k ∷ []) []) (let k : length (entries_bytes writing.interval 0 [] pairs) ≡ 0 + length (entries_bytes writing.interval 0 [] pairs) = omega arith in k)
+          ∙ sym (restarts_more writing.interval 0 0 [] pairs (key, value));
+      last = sym (last_more [] pairs (key, value));
+    }
+
+-- ---- sizes
+
+varint_some : (n : ℕ) → 1 ≤ length (varint n)
+unfolding shortest
+varint_some n = either (ltb n 128)
+  where
+    either : (t : Bool) → 1 ≤ length (cond t (n ∷ []) ((n % 128 + 128) ∷ shortest 9 (n / 128)))
+    either true = omega arith
+    either false = omega arith
+
+pub entry_some : (shared : ℕ) (key value : List ℕ) → 1 ≤ length (entry_bytes shared key value)
+entry_some shared key value =
+    let a = varint shared in
+    let b = varint (length key - shared) in
+    let c = varint (length value) in
+    omega (arith, varint_some shared, length-append a b, length-append (a ++ b) c, length-append (a ++ b ++ c) (drop shared key), length-append (a ++ b ++ c ++ drop shared key) value)
+
+-- what was finished is no shorter than its entries
+pub finished_long : (writing : Writing) → length writing.entries ≤ length (finished writing)
+finished_long writing =
+    omega (arith, length-append writing.entries (flat_map fixed32 (or_zero writing.restarts)), length-append (writing.entries ++ flat_map fixed32 (or_zero writing.restarts)) (fixed32 (length (or_zero writing.restarts))))
+
+pub keeps_writing : (writing : Writing) (key value : List ℕ) → IsWriting writing → length (finished (added writing key value)) < 2 ^ 32 → IsWriting (added writing key value)
+keeps_writing writing key value w room =
+    let entry = entry_bytes (shared_of writing.interval writing.count writing.last key) key value in
+    let more = length-append writing.entries entry in
+    let some = entry_some (shared_of writing.interval writing.count writing.last key) key value in
+    let one : length (cond (eqb (writing.count % writing.interval) 0) (length writing.entries ∷ []) []) ≤ 1 = at_most (eqb (writing.count % writing.interval) 0) in
+    record {
+      interval = w.interval;
+      size = omega (arith, finished_long (added writing key value), room);
+      count = omega (arith, more, some, w.count);
+      restarts = omega (arith, more, some, w.restarts, one, length-append writing.restarts (cond (eqb (writing.count % writing.interval) 0) (length writing.entries ∷ []) []));
+    }
+  where
+    at_most : (t : Bool) → length (cond t (length writing.entries ∷ []) []) ≤ 1
+    at_most true = omega arith
+    at_most false = omega arith

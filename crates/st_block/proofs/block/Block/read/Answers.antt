@@ -1,0 +1,13 @@
+use Rattle.std.proofs.Common.{◌≡◌, ◌+◌, ℕ, List, take, subst, sym, ap, ◌∙◌}
+use Rattle.std.specs.Prelude.{slice_range}
+use Rattle.st_block.specs.Block.{Cell}
+use Rattle.st_block.specs.Place.{Contents, Takes, contents_in}
+use Rattle.st_block.proofs.block.Block.read.Goals as goal
+
+pub returns-clause-found : goal.returns-clause-found
+returns-clause-found c =
+    let i = c.self.inside in
+    let same : c.as_slice.result.now ≡ i.bytes.value = c.as_slice.ensures ∙ c.deref.ensures in
+    let block : contents_in i.kind (slice_range c.as_slice.result.now i.from (i.from + i.size)) i.layout ≡ c.args.self.now = ap (λ (l : List ℕ). contents_in i.kind (slice_range l i.from (i.from + i.size)) i.layout) same ∙ c.self.view_is in
+    let found = c.in_ok-read.ensures.found.0 in
+    (found.0, subst (λ (b : Contents). Takes b c.args.at c.read_in.new.scratch (slice_range (take i.layout.end (slice_range c.as_slice.result.now i.from (i.from + i.size))) c.in_ok-read.read.value c.in_ok-read.read.next) c.in_ok-read.read.next found.0) block found.1)

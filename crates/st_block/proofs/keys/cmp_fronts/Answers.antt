@@ -1,0 +1,21 @@
+use Rattle.std.proofs.Common.{◌≡◌, ◌≤◌, ◌<◌, ◌+◌, ◌++◌, length, take, sym, ◌∙◌, refl, arith}
+use Rattle.st_block.proofs.Fronts.{length_new, fronts_more, fronts_stop, fronts_end}
+use Rattle.st_block.proofs.keys.cmp_fronts.Goals as goal
+
+pub returns-then-old-new : goal.returns-then-old-new
+returns-then-old-new c =
+    let new = take c.args.shared c.args.before.now ++ c.args.others.now in
+    let len = length_new c.args.before.now c.args.others.now c.args.shared c.requires.shared in
+    c.cmp.ensures ∙ sym (c.loop-place.invariant ∙ fronts_stop c.args.before.now new c.args.front c.args.new_front c.loop-place.place c.requires.old (omega (arith, len, c.requires.new)) _ _ (omega arith) (omega arith) refl c.byte_at-new.ensures c.if-old-new.true)
+
+pub loop-place-preserved : goal.loop-place-preserved
+loop-place-preserved c =
+    let new = take c.args.shared c.args.before.now ++ c.args.others.now in
+    let len = length_new c.args.before.now c.args.others.now c.args.shared c.requires.shared in
+    c.loop-place.invariant ∙ fronts_more c.args.before.now new c.args.front c.args.new_front c.loop-place.place c.requires.old (omega (arith, len, c.requires.new)) _ _ (omega arith) (omega arith) refl c.byte_at-new.ensures c.if-old-new.false
+
+pub returns : goal.returns
+returns c =
+    let new = take c.args.shared c.args.before.now ++ c.args.others.now in
+    let len = length_new c.args.before.now c.args.others.now c.args.shared c.requires.shared in
+    c.cmp-2.ensures ∙ sym (c.loop-place.invariant ∙ fronts_end c.args.before.now new c.args.front c.args.new_front c.loop-place.place c.requires.old (omega (arith, len, c.requires.new)) (omega arith))

@@ -1,0 +1,126 @@
+ghost use Rattle.std.specs.Prelude.{◌≡◌, [], ◌+◌, ◌≤◌, ◌↔◌, ℕ, List, length, slice_range, Err, IfErr, IfNone, IfOk, IfSome, IsTrue};
+
+use crate::kind::BlockKind;
+use crate::open::{Layout, layout_of};
+use crate::walk::{lower_in, read_in};
+use st_base::{BlockFault, Bytes, Scratch};
+use std::marker::Model;
+use std::sync::Arc;
+
+/// An entry of a block, where it lies. Its key stands in the scratch that it was read with.
+#[derive(Clone, Copy, Debug)]
+pub struct BlockEntry<'a> {
+    /// Its value.
+    pub value: &'a [u8],
+    /// The place behind it.
+    pub next: usize,
+}
+
+/// A block that was tested whole when it was opened, and is read where it lies in shared bytes. Contracts see its kind, its
+/// entries, each with its place, and the place where they end. A place is an offset in the block, in bytes.
+#[derive(Drop)]
+pub struct Block {
+    bytes: Arc<Bytes>,
+    from: usize,
+    size: usize,
+    kind: BlockKind,
+    layout: Layout,
+}
+
+impl Model for Block {
+    ghost use Rattle.std.specs.Prelude.{◌+◌, slice_range};
+    ghost use Rattle.st_block.specs.Place.{Contents, Keeps, contents_in};
+
+    ghost Value = { Contents };
+
+    ghost view = { λ block. contents_in block.kind (slice_range block.bytes.value block.from (block.from + block.size)) block.layout };
+
+    ghost invariant = { λ block. Keeps block.bytes.value block.from block.size block.kind block.layout };
+}
+
+impl Block {
+    ghost use Rattle.st_block.specs.Block.{Cell, block_of};
+    ghost use Rattle.st_block.specs.Place.{Opens, Stands, Takes, cells_at, keys_rise, lower_place};
+
+    /// The block of this kind in the `size` bytes from the place `from` on, or its first fault: first of the restarts at its
+    /// end, then of the entries in order, then of a restart that is no entry that shares nothing. It takes no memory, and its
+    /// work is linear in the size.
+    pub fn open(
+        bytes: Arc<Bytes>,
+        from: usize,
+        size: usize,
+        kind: BlockKind,
+        scratch: &mut Scratch,
+    ) -> Result<Block, BlockFault>
+        requires { from + size ≤ length bytes.value }
+        ensures ok { IfOk result (Opens kind (slice_range bytes.value from (from + size))) }
+        ensures err { IfErr result (λ fault. block_of kind (slice_range bytes.value from (from + size)) ≡ Err fault) }
+    {
+        let layout = layout_of(&bytes.as_slice()[from..from + size], kind, scratch)?;
+        Ok(Block {
+            bytes,
+            from,
+            size,
+            kind,
+            layout,
+        })
+    }
+
+    /// How many entries it has.
+    pub fn len(&self) -> usize
+        ensures { result ≡ length self.now.cells }
+    {
+        self.layout.entries
+    }
+
+    /// Whether it has no entries.
+    pub fn is_empty(&self) -> bool
+        ensures { IsTrue result ↔ (self.now.cells ≡ []) }
+    {
+        self.layout.entries == 0
+    }
+
+    /// Its kind.
+    pub fn kind(&self) -> BlockKind
+        ensures { result ≡ self.now.kind }
+    {
+        self.kind
+    }
+
+    /// The place of the first entry, at which a reader stands with any key in its scratch.
+    pub fn start(&self) -> usize
+        ensures value { cells_at result self.now.cells ≡ self.now.cells }
+        ensures stands { (key : List ℕ) → Stands self.now result key }
+    {
+        let _layout = self.layout;
+        0
+    }
+
+    /// The entry at the place; its key is put into the scratch, and a reader then stands at the place behind it. None exactly
+    /// at the end. It reads that one entry.
+    pub fn read<'a>(&'a self, at: usize, scratch: &mut Scratch) -> Option<BlockEntry<'a>>
+        requires { Stands self.now at scratch.old }
+        ensures found { IfSome result (λ entry. ((cell : Cell) × Takes self.now at scratch.new entry.value.now entry.next cell)) }
+        ensures none { IfNone result ((cells_at at self.now.cells ≡ []) × (scratch.new ≡ scratch.old)) }
+    {
+        let text = &self.bytes.as_slice()[self.from..self.from + self.size];
+        let read = read_in(text, self.kind, self.layout, at, scratch)?;
+        let area = &text[..self.layout.end];
+        Some(BlockEntry {
+            value: &area[read.value..read.next],
+            next: read.next,
+        })
+    }
+
+    /// The place of the first entry that doesn't come before the key and the sequence number, or where all end; a reader then
+    /// stands there. The keys are to rise as internal keys. It searches the restarts by halves, and then walks from one restart
+    /// to the next at most.
+    pub fn lower(&self, key: &[u8], number: u64, scratch: &mut Scratch) -> usize
+        requires { IsTrue (keys_rise self.now.cells) }
+        ensures value { result ≡ lower_place self.now key.now number }
+        ensures stands { Stands self.now result scratch.new }
+    {
+        let text = &self.bytes.as_slice()[self.from..self.from + self.size];
+        lower_in(text, self.kind, self.layout, key, number, scratch)
+    }
+}

@@ -1,0 +1,95 @@
+ghost use Rattle.std.specs.Prelude.{◌≡◌, ℕ, [], ◌<◌, ◌+◌, ◌*◌, ◌≤◌, ◌⊎◌, Bool, IfNone, IfSome, IsTrue, List, Some, length, take, drop, slice_range};
+ghost use Rattle.std.specs.Int.{w32, from_le_bytes};
+ghost use Rattle.st_block.specs.Block.{Cell, cell_at};
+ghost use Rattle.st_block.specs.Entry.{IsLayout, IsRead};
+ghost use Rattle.st_block.specs.Place.{Stands, Takes, cells_at, cells_in, contents_in, keys_rise, lower_place};
+ghost use Rattle.st_block.specs.Search.{IsStart};
+
+use crate::entry::{Read, head_at, read_at};
+use crate::keys::is_key_before;
+use crate::kind::BlockKind;
+use crate::open::Layout;
+use crate::tail::offset_at;
+use st_base::Scratch;
+
+/// The entry at the place, or none at the end. Its key is put into the scratch.
+pub(crate) fn read_in(
+    text: &[u8],
+    kind: BlockKind,
+    layout: Layout,
+    at: usize,
+    scratch: &mut Scratch,
+) -> Option<Read>
+    requires lies { IsLayout kind text.now layout (cells_in kind (take layout.end text.now)) }
+    requires stands { Stands (contents_in kind text.now layout) at scratch.old }
+    ensures found { IfSome result (λ read. ((cell : Cell) × Takes (contents_in kind text.now layout) at scratch.new (slice_range (take layout.end text.now) read.value read.next) read.next cell) × IsRead (length (take layout.end text.now)) at read) }
+    ensures none { IfNone result ((cells_at at (cells_in kind (take layout.end text.now)) ≡ []) × (scratch.new ≡ scratch.old)) }
+{
+    if at == layout.end {
+        return None;
+    }
+    read_at(&text[..layout.end], at, scratch)
+}
+
+// The key of the entry at the place, where it shares nothing.
+fn restart_key(area: &[u8], at: usize) -> &[u8]
+    ensures { (before : List ℕ) (cell : Cell) (next : ℕ) → cell_at area.now before at ≡ Some (cell, next) → cell.shared ≡ 0 → result.now ≡ cell.key }
+{
+    let Some(head) = head_at(area, at) else {
+        return &area[..0];
+    };
+    let end = head.behind + head.unshared;
+    if end > area.len() {
+        return &area[..0];
+    }
+    &area[head.behind..end]
+}
+
+// The last restart whose entry comes before the place of the key and the number, or the first restart.
+fn start_of(text: &[u8], kind: BlockKind, layout: Layout, key: &[u8], number: u64) -> usize
+    requires lies { IsLayout kind text.now layout (cells_in kind (take layout.end text.now)) }
+    requires some { 0 < layout.entries }
+    ensures { IsStart kind text.now layout key.now number result }
+{
+    let area = &text[..layout.end];
+    let mut low = 0;
+    let mut high = layout.restarts;
+    while low + 1 < high {
+        let middle = low + (high - low) / 2;
+        let at = offset_at(text, layout.end + 4 * middle) as usize;
+        if is_key_before(restart_key(area, at), key, number) {
+            low = middle;
+        } else {
+            high = middle;
+        }
+    }
+    offset_at(text, layout.end + 4 * low) as usize
+}
+
+/// The place of the first entry that doesn't come before the key and the number, or the end. Its key is put into the
+/// scratch.
+pub(crate) fn lower_in(
+    text: &[u8],
+    kind: BlockKind,
+    layout: Layout,
+    key: &[u8],
+    number: u64,
+    scratch: &mut Scratch,
+) -> usize
+    requires lies { IsLayout kind text.now layout (cells_in kind (take layout.end text.now)) }
+    requires order { IsTrue (keys_rise (cells_in kind (take layout.end text.now))) }
+    ensures value { result ≡ lower_place (contents_in kind text.now layout) key.now number }
+    ensures stands { Stands (contents_in kind text.now layout) result scratch.new }
+{
+    if layout.entries == 0 {
+        return layout.end;
+    }
+    let mut at = start_of(text, kind, layout, key, number);
+    while let Some(read) = read_in(text, kind, layout, at, scratch) {
+        if !is_key_before(scratch.as_slice(), key, number) {
+            break;
+        }
+        at = read.next;
+    }
+    at
+}

@@ -1,0 +1,5 @@
+pub mod AnsweredAlong
+pub mod Grow
+pub mod Places
+pub mod ReadAfter
+pub mod WriteAnswers

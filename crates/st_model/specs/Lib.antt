@@ -1,0 +1,11 @@
+pub mod State
+pub mod Read
+pub mod Apply
+pub mod Refusal
+pub mod Answer
+pub mod Reply
+pub mod Word
+pub mod Line
+pub mod Asked
+pub mod History
+pub mod Legal
