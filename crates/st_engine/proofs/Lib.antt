@@ -1,0 +1,5 @@
+pub mod Default
+pub mod Marks
+pub mod Open
+pub mod Rooms
+pub mod Write
