@@ -19,7 +19,7 @@ use Rattle.st_block.proofs.Offsets.{offsets_more}
 
 -- ---- the tail
 
-length_offsets : (text : List ℕ) (at count : ℕ) → length (offsets_at text at count) ≡ count
+pub length_offsets : (text : List ℕ) (at count : ℕ) → length (offsets_at text at count) ≡ count
 length_offsets text at zero = refl
 length_offsets text at (suc count) = ap suc (length_offsets text (at + 4) count)
 
@@ -157,6 +157,7 @@ module _ (kind : BlockKind) (text : List ℕ) (tail : Tail) (found : Found) (cel
         first = subst (λ (k : ℕ). offsets_at text layout.end k ≡ 0 ∷ offsets_at text (layout.end + 4) (k - 1)) (sym r) (subst (λ (k : ℕ). offsets_at text k tail.count ≡ 0 ∷ offsets_at text (k + 4) (tail.count - 1)) (sym e) (first_is text tail.end tail.count (tail_rises text _ there)));
         restarts = λ some. subst (λ (k : ℕ). list_all (is_restart cells) (offsets_at text layout.end k) ≡ true) (sym r) (subst (λ (k : ℕ). list_all (is_restart cells) (offsets_at text k tail.count) ≡ true) (sym e) (all_there (met_all h (omega arith))));
         count = read.count ∙ sym n;
+        tail = subst (λ (k : ℕ). tail_of text ≡ Some (record { end = layout.end; restarts = offsets_at text layout.end k })) (sym r) (subst (λ (k : ℕ). tail_of text ≡ Some (record { end = k; restarts = offsets_at text k tail.count })) (sym e) there);
         room = omega arith;
       }
 
