@@ -1,9 +1,9 @@
 -- An opened block, and the places in it at which an entry begins, or where all end.
-use Rattle.std.specs.Prelude.{◌≡◌, ℕ, ◌+◌, ◌<◌, ◌≤◌, Bool, ◌==◌, List, [], ◌∷◌, length, take, slice_range, Ok, Some, if◌then◌else◌}
+use Rattle.std.specs.Prelude.{◌≡◌, ℕ, ◌+◌, ◌<◌, ◌≤◌, Bool, ◌==◌, List, [], ◌∷◌, length, take, slice_range, Ok, if◌then◌else◌}
 use Rattle.std.specs.Result.{result_unwrap_or}
 use Rattle.std.specs.Ordering.{is_lt}
 use Rattle.st_base.specs.Order.{rises}
-use Rattle.st_block.specs.Block.{Cell, block_of, end_of, entries_of, offsets_at, tail_of}
+use Rattle.st_block.specs.Block.{Cell, block_of, end_of, entries_of, offsets_at, restarts_of}
 use Rattle.st_block.specs.Entry.{IsLayout}
 use Rattle.st_block.specs.InternalKey.{internal_cmp, is_key_before}
 use Rattle.st_block.specs.declared.kind.BlockKind.{BlockKind}
@@ -20,8 +20,8 @@ pub record Contents : Type 0 where
 pub record Opens (kind : BlockKind) (text : List ℕ) (block : Contents) : Type 0 where
   pub cells : block_of kind text ≡ Ok block.cells
   pub kind_is : block.kind ≡ kind
-  pub tail : tail_of text ≡ Some (record { end = block.end; restarts = block.restarts })
   pub end : block.end ≡ end_of text
+  pub restarts : block.restarts ≡ restarts_of text
   pub within : block.end ≤ length text
 
 -- the entries from the one at this place on
