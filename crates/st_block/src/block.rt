@@ -40,7 +40,7 @@ impl Model for Block {
 
 impl Block {
     ghost use Rattle.st_block.specs.Block.{Cell, block_of};
-    ghost use Rattle.st_block.specs.Place.{Opens, Stands, Takes, cells_at, keys_rise, lower_place};
+    ghost use Rattle.st_block.specs.Place.{Advances, Opens, Stands, Takes, cells_at, keys_rise, lower_place};
 
     /// The block of this kind in the `size` bytes from the place `from` on, or its first fault: first of the restarts at its
     /// end, then of the entries in order, then of a restart that is no entry that shares nothing. It takes no memory, and its
@@ -101,6 +101,7 @@ impl Block {
     pub fn read<'a>(&'a self, at: usize, scratch: &mut Scratch) -> Option<BlockEntry<'a>>
         requires { Stands self.now at scratch.old }
         ensures found { IfSome result (λ entry. ((cell : Cell) × Takes self.now at scratch.new entry.value.now entry.next cell)) }
+        ensures advances { IfSome result (λ entry. Advances self.now at entry.value.now entry.next) }
         ensures none { IfNone result ((cells_at at self.now.cells ≡ []) × (scratch.new ≡ scratch.old)) }
     {
         let text = &self.bytes.as_slice()[self.from..self.from + self.size];

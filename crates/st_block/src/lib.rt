@@ -14,6 +14,7 @@ mod walk;
 mod writer;
 
 pub use block::{Block, BlockEntry};
+pub use keys::{internal_cmp, packed};
 pub use kind::BlockKind;
 pub use laws::{index_keys_rise, writer_holds_what_is_added, written_block_opens};
 pub use writer::BlockWriter;
