@@ -25,9 +25,7 @@ pub fn internal_cmp(one: &[u8], other: &[u8]) -> Ordering
 {
     let one_key = &one[..one.len().saturating_sub(8)];
     let other_key = &other[..other.len().saturating_sub(8)];
-    one_key
-        .cmp(other_key)
-        .then(packed(other).cmp(&packed(one)))
+    one_key.cmp(other_key).then(packed(other).cmp(&packed(one)))
 }
 
 // Whether the internal key comes before the place of the key and the number.
