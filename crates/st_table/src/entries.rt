@@ -1,4 +1,4 @@
-ghost use Rattle.std.specs.Prelude.{◌≡◌, ◌≤◌, ◌/◌, ◌%◌, length, Option, Some, Ok, IfOk, IfErr, OnOk, IsTrue};
+ghost use Rattle.std.specs.Prelude.{◌≡◌, ◌≤◌, ◌/◌, ◌%◌, [], ◌∷◌, ◌++◌, length, Option, Some, Ok, IfOk, IfErr, OnOk, IsTrue};
 ghost use Rattle.std.specs.Option.{option_copied};
 ghost use Rattle.st_base.specs.Order.{in_order};
 ghost use Rattle.st_base.specs.Rows.{AreRows};
@@ -136,6 +136,21 @@ fn entry_under(alloc: Global, internal: &[u8], value: &[u8]) -> Result<Entry, Al
     })
 }
 
+// Puts the entry that an internal key and a value are at the end.
+fn push_tested(
+    alloc: Global,
+    entries: &mut Entries,
+    internal: &[u8],
+    value: &[u8],
+) -> Result<(), AllocError>
+    requires key { length internal.now ≤ INTERNAL_KEY_BYTES }
+    requires value { length value.now ≤ VALUE_BYTES }
+    ensures { OnOk result (entries.new ≡ entries.old ++ entry_under internal.now value.now ∷ []) }
+{
+    let entry = entry_under(alloc, internal, value)?;
+    entries.push(entry)
+}
+
 // Puts the entry that an internal key and a value are behind those before, or finds its fault.
 fn push_entry(
     alloc: Global,
@@ -151,12 +166,13 @@ fn push_entry(
 {
     let place = entries.len() as u64;
     let before = entries.as_slice().last();
-    if let Some(fault) = entry_fault(kind, place, before, internal, value) {
-        return Err(fault.into());
+    match entry_fault(kind, place, before, internal, value) {
+        Some(fault) => Err(fault.into()),
+        None => {
+            push_tested(alloc, entries, internal, value)?;
+            Ok(())
+        }
     }
-    let entry = entry_under(alloc, internal, value)?;
-    entries.push(entry)?;
-    Ok(())
 }
 
 /// Puts the entries of a data block behind those before, or finds their first fault. The last key stands in the scratch

@@ -13,6 +13,8 @@ mod stored;
 mod metaindex;
 mod properties;
 mod entries;
+mod data_blocks;
+mod table;
 
 pub use fault::OpenTableFault;
 pub use kind::TableKind;
