@@ -14,7 +14,9 @@ mod metaindex;
 mod properties;
 mod entries;
 mod data_blocks;
+mod find;
 mod table;
 
 pub use fault::OpenTableFault;
 pub use kind::TableKind;
+pub use table::Table;
