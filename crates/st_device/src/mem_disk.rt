@@ -123,13 +123,6 @@ impl MemDisk {
         self.calls
     }
 
-    /// How many of them failed.
-    pub fn faults(&self) -> u64
-        ensures { result ≡ (told self.now).faults }
-    {
-        self.faults
-    }
-
     /// How many of them failed since memory refused a growth.
     pub fn starved(&self) -> u64
         ensures { result ≡ self.now.starved }
@@ -315,5 +308,9 @@ impl Disk for MemDisk {
                 Err(Failed)
             }
         }
+    }
+
+    fn faults(&self) -> u64 {
+        self.faults
     }
 }

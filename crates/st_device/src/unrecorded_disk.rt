@@ -115,4 +115,8 @@ impl Disk for UnrecordedDisk {
         self.files.remove(file);
         Ok(())
     }
+
+    fn faults(&self) -> u64 {
+        self.faults
+    }
 }
