@@ -1,12 +1,12 @@
 -- Writing entries one behind the other.
 use Rattle.std.proofs.Common.{◌≡◌, ℕ, zero, suc, ◌+◌, ◌-◌, ◌*◌, ◌/◌, ◌%◌, ◌<◌, ◌≤◌, ◌^◌, inl, inr, Bool, true, false, cond, eqb, ltb, List, [], ◌∷◌, ◌++◌, length, take, drop, refl, sym, ap, ◌∙◌, append_assoc, arith}
-use Rattle.std.specs.Prelude.{nat_eq}
+use Rattle.std.specs.Prelude.{nat_eq, max}
 use Rattle.std.specs.List.{common_prefix_len, flat_map}
 use Rattle.std.proofs.lemmas.Bool.{cases_Bool, eqb-true}
 use Rattle.std.proofs.lemmas.List.{length-append, length-drop, append-nil}
 use Rattle.st_code.specs.Fixed.{fixed32}
 use Rattle.st_code.specs.Varint.{varint, shortest}
-use Rattle.st_block.specs.Written.{Holds, IsWriting, Writing, added, entries_bytes, entry_bytes, finished, last_key, or_zero, restarts_of, shared_of}
+use Rattle.st_block.specs.Written.{Holds, IsWriting, Writing, added, entries_bytes, entry_bytes, finished, last_key, or_zero, restarts_of, shared_of, with_tail}
 
 -- ---- a common front
 
@@ -159,3 +159,26 @@ finished_short writing key value =
     four : (l : List ℕ) → length (flat_map fixed32 l) ≡ 4 * length l
     four [] = refl
     four (r ∷ l) = omega (arith, four l, length-append (fixed32 r) (flat_map fixed32 l))
+
+-- ---- exact sizes
+
+pub entry_length : (shared : ℕ) (key value : List ℕ) → length (entry_bytes shared key value) ≡ length (varint shared) + length (varint (length key - shared)) + length (varint (length value)) + (length key - shared) + length value
+entry_length s key value =
+    let a = varint s in
+    let b = varint (length key - s) in
+    let c = varint (length value) in
+    let k = drop s key in
+    omega (arith, length-append a b, length-append (a ++ b) c, length-append (a ++ b ++ c) k, length-append (a ++ b ++ c ++ k) value, length-drop s key)
+
+pub offsets_length : (l : List ℕ) → length (flat_map fixed32 l) ≡ 4 * length l
+offsets_length [] = refl
+offsets_length (r ∷ l) = omega (arith, offsets_length l, length-append (fixed32 r) (flat_map fixed32 l))
+
+pub zero_length : (l : List ℕ) → length (or_zero l) ≡ max (length l) 1
+zero_length [] = refl
+zero_length (r ∷ l) = omega arith
+
+pub tail_length : (entries restarts : List ℕ) → length (with_tail entries (or_zero restarts)) ≡ length entries + 4 * max (length restarts) 1 + 4
+tail_length entries restarts =
+    let z = or_zero restarts in
+    omega (arith, zero_length restarts, offsets_length z, length-append entries (flat_map fixed32 z), length-append (entries ++ flat_map fixed32 z) (fixed32 (length z)))

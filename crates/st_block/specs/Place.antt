@@ -1,24 +1,28 @@
 -- An opened block, and the places in it at which an entry begins, or where all end.
-use Rattle.std.specs.Prelude.{◌≡◌, ℕ, ◌+◌, ◌≤◌, Bool, ◌==◌, List, [], ◌∷◌, length, take, slice_range, Ok, if◌then◌else◌}
+use Rattle.std.specs.Prelude.{◌≡◌, ℕ, ◌+◌, ◌<◌, ◌≤◌, Bool, ◌==◌, List, [], ◌∷◌, length, take, slice_range, Ok, if◌then◌else◌}
 use Rattle.std.specs.Result.{result_unwrap_or}
 use Rattle.std.specs.Ordering.{is_lt}
 use Rattle.st_base.specs.Order.{rises}
-use Rattle.st_block.specs.Block.{Cell, block_of, entries_of}
+use Rattle.st_block.specs.Block.{Cell, block_of, end_of, entries_of, offsets_at, restarts_of}
 use Rattle.st_block.specs.Entry.{IsLayout}
 use Rattle.st_block.specs.InternalKey.{internal_cmp, is_key_before}
 use Rattle.st_block.specs.declared.kind.BlockKind.{BlockKind}
 use Rattle.st_block.specs.declared.open.Layout.{Layout}
 
--- what a block has: its kind, where its entries end, and the entries
+-- what a block has: its kind, where its entries end, the entries, and the restarts behind them
 pub record Contents : Type 0 where
   pub kind : BlockKind
   pub end : ℕ
   pub cells : List Cell
+  pub restarts : List ℕ
 
 -- the block is what these bytes are as a block of this kind
 pub record Opens (kind : BlockKind) (text : List ℕ) (block : Contents) : Type 0 where
   pub cells : block_of kind text ≡ Ok block.cells
   pub kind_is : block.kind ≡ kind
+  pub end : block.end ≡ end_of text
+  pub restarts : block.restarts ≡ restarts_of text
+  pub within : block.end ≤ length text
 
 -- the entries from the one at this place on
 abbrev pub cells_at : ℕ → List Cell → List Cell
@@ -48,6 +52,12 @@ pub record Takes (block : Contents) (at : ℕ) (key value : List ℕ) (next : �
   pub shared : cell.shared ≤ length cell.key
   pub behind : Stands block next key
 
+-- an entry that was read ends behind its place, where its value ends, and with all entries or before
+pub record Advances (block : Contents) (at : ℕ) (value : List ℕ) (next : ℕ) : Type 0 where
+  pub behind : at < next
+  pub value_before : length value ≤ next
+  pub within : next ≤ block.end
+
 -- the entries from the first one on that doesn't come before the place of a key and a number
 abbrev pub cells_from_place : List ℕ → ℕ → List Cell → List Cell
 cells_from_place key number [] = []
@@ -68,7 +78,8 @@ abbrev pub cells_in : BlockKind → List ℕ → List Cell
 cells_in kind area = result_unwrap_or (entries_of kind area) []
 
 abbrev pub contents_in : BlockKind → List ℕ → Layout → Contents
-contents_in kind text layout = record { kind = kind; end = layout.end; cells = cells_in kind (take layout.end text) }
+contents_in kind text layout =
+    record { kind = kind; end = layout.end; cells = cells_in kind (take layout.end text); restarts = offsets_at text layout.end layout.restarts }
 
 -- the bytes from a place on lie as the layout says
 pub record Keeps (bytes : List ℕ) (from size : ℕ) (kind : BlockKind) (layout : Layout) : Type 0 where

@@ -8,8 +8,8 @@ use crate::kind::BlockKind;
 use st_code::read_fixed64;
 use std::cmp::Ordering;
 
-// The number of an internal key, packed with its kind.
-fn packed(internal: &[u8]) -> u64
+/// The number of an internal key: its sequence number times 256, plus its kind.
+pub fn packed(internal: &[u8]) -> u64
     ensures { result ≡ packed internal.now }
 {
     let from = internal.len().saturating_sub(8);
@@ -17,6 +17,15 @@ fn packed(internal: &[u8]) -> u64
         Some(number) => number,
         None => packed_short(internal),
     }
+}
+
+/// How two internal keys compare: by key upwards, and at one key by the packed number downwards.
+pub fn internal_cmp(one: &[u8], other: &[u8]) -> Ordering
+    ensures { result ≡ internal_cmp one.now other.now }
+{
+    let one_key = &one[..one.len().saturating_sub(8)];
+    let other_key = &other[..other.len().saturating_sub(8)];
+    one_key.cmp(other_key).then(packed(other).cmp(&packed(one)))
 }
 
 // Whether the internal key comes before the place of the key and the number.

@@ -1,10 +1,10 @@
-ghost use Rattle.std.specs.Prelude.{◌≡◌, ℕ, ◌+◌, ◌-◌, ◌<◌, ◌≤◌, ◌^◌, [], ◌∷◌, ◌++◌, List, IfOk, IsTrue, OnErr, OnOk, ◌*◌, length, take, drop, nat_eq, ◌%◌, ◌==◌, if◌then◌else◌};
+ghost use Rattle.std.specs.Prelude.{◌≡◌, ℕ, ◌+◌, ◌-◌, ◌<◌, ◌≤◌, ◌^◌, [], ◌∷◌, ◌++◌, List, IfOk, IsTrue, ◌↔◌, OnErr, OnOk, ◌*◌, length, take, drop, nat_eq, ◌%◌, ◌==◌, if◌then◌else◌};
 ghost use Rattle.std.specs.List.{common_prefix_len, flat_map};
 ghost use Rattle.st_code.specs.Fixed.{fixed32};
-ghost use Rattle.st_block.specs.Written.{Appends, entry_bytes, shared_of};
+ghost use Rattle.st_block.specs.Written.{Appends, entry_bytes, or_zero, shared_of, with_tail};
 
 use st_base::{Bytes, INTERNAL_KEY_BYTES, List, Scratch, VALUE_BYTES};
-use st_code::{push_fixed32, push_varint};
+use st_code::{push_fixed32, push_varint, varint_len};
 use std::alloc::{AllocError, Global};
 use std::marker::Model;
 
@@ -56,6 +56,57 @@ fn push_offsets(out: &mut Bytes, offsets: &[u32]) -> Result<(), AllocError>
         push_fixed32(out, *offset)?;
     }
     Ok(())
+}
+
+// Puts the restart offsets and their count at the end; a block without entries has the one restart 0.
+fn put_tail(out: &mut Bytes, restarts: &[u32]) -> Result<(), AllocError>
+    requires { length restarts.now < 2 ^ 32 }
+    ensures { OnOk result (out.new ≡ with_tail out.old (or_zero restarts.now)) }
+{
+    if restarts.is_empty() {
+        push_offsets(out, &[0])?;
+        return push_fixed32(out, 1);
+    }
+    push_offsets(out, restarts)?;
+    push_fixed32(out, restarts.len() as u32)
+}
+
+// How many bytes so many restart offsets and their count have.
+fn tail_size(restarts: usize) -> usize
+    requires { restarts ≤ 2 ^ 33 }
+    ensures size { (entries offsets : List ℕ) → length offsets ≡ restarts → length entries + result ≡ length (with_tail entries (or_zero offsets)) }
+    ensures within { result ≤ 2 ^ 36 }
+{
+    4 * restarts.max(1) + 4
+}
+
+// How many restarts there are with the one that may be due.
+fn restarts_with(restarts: usize, count: usize, interval: usize) -> usize
+    requires interval { 0 < interval }
+    requires restarts { restarts < 2 ^ 32 }
+    ensures size { (offsets : List ℕ) (at : ℕ) → length offsets ≡ restarts → result ≡ length (offsets ++ (if count % interval == 0 then at ∷ [] else [])) }
+    ensures within { result ≤ 2 ^ 33 }
+{
+    if count % interval == 0 {
+        restarts + 1
+    } else {
+        restarts
+    }
+}
+
+// How many bytes an entry has that shares so many with the key before.
+fn entry_size(shared: usize, key: &[u8], value: &[u8]) -> usize
+    requires shared { shared ≤ length key.now }
+    requires key { length key.now ≤ 65543 }
+    requires value { length value.now ≤ 1048576 }
+    ensures size { result ≡ length (entry_bytes shared key.now value.now) }
+    ensures within { result ≤ 1114149 }
+{
+    let unshared = key.len() - shared;
+    let lengths = varint_len(shared as u64)
+        + varint_len(unshared as u64)
+        + varint_len(value.len() as u64);
+    lengths + unshared + value.len()
 }
 
 // How many bytes the next entry shares with the key before.
@@ -184,14 +235,73 @@ impl BlockWriter {
     {
         let mut bytes = Bytes::new(alloc);
         bytes.extend_from_slice(self.entries.as_slice())?;
-        let count = self.restarts.len();
-        if count == 0 {
-            push_offsets(&mut bytes, &[0])?;
-            push_fixed32(&mut bytes, 1)?;
-            return Ok(bytes);
-        }
-        push_offsets(&mut bytes, self.restarts.as_slice())?;
-        push_fixed32(&mut bytes, count as u32)?;
+        put_tail(&mut bytes, self.restarts.as_slice())?;
+        Ok(bytes)
+    }
+
+    /// How many entries were added.
+    pub fn len(&self) -> usize
+        ensures { result ≡ self.now.count }
+    {
+        self.count
+    }
+
+    /// Whether no entry was added.
+    pub fn is_empty(&self) -> bool
+        ensures { IsTrue result ↔ (self.now.count ≡ 0) }
+    {
+        self.count == 0
+    }
+
+    /// The key of the last entry that was added; no bytes where there is none.
+    pub fn last_key(&self) -> &[u8]
+        ensures { result.now ≡ self.now.last }
+    {
+        self.last.as_slice()
+    }
+
+    /// How many bytes the entries have with this one more.
+    pub fn size_with(&self, key: &[u8], value: &[u8]) -> usize
+        requires key { length key.now ≤ 65543 }
+        requires value { length value.now ≤ 1048576 }
+        ensures size { result ≡ length (added self.now key.now value.now).entries }
+        ensures within { result ≤ 2 ^ 33 }
+    {
+        let shared = shared_with(self.last.as_slice(), key, self.count, self.interval);
+        self.entries.len() + entry_size(shared, key, value)
+    }
+
+    /// How many bytes `finish` gives with this entry more.
+    pub fn finished_size_with(&self, key: &[u8], value: &[u8]) -> usize
+        requires key { length key.now ≤ 65543 }
+        requires value { length value.now ≤ 1048576 }
+        ensures size { result ≡ length (finished (added self.now key.now value.now)) }
+        ensures within { result ≤ 2 ^ 37 }
+    {
+        let restarts = restarts_with(self.restarts.len(), self.count, self.interval);
+        self.size_with(key, value) + tail_size(restarts)
+    }
+
+    /// How many bytes `finish` gives.
+    pub fn finished_size(&self) -> usize
+        ensures { result ≡ length (finished self.now) }
+    {
+        self.entries.len() + tail_size(self.restarts.len())
+    }
+
+    /// The block of what was added and this entry more, which is not added. It is to have fewer than 2^32 bytes.
+    pub fn finish_with(&self, alloc: Global, key: &[u8], value: &[u8]) -> Result<Bytes, AllocError>
+        requires key { length key.now ≤ 65543 }
+        requires value { length value.now ≤ 1048576 }
+        requires room { length (finished (added self.now key.now value.now)) < 2 ^ 32 }
+        ensures { IfOk result (λ bytes. bytes ≡ finished (added self.now key.now value.now)) }
+    {
+        let shared = shared_with(self.last.as_slice(), key, self.count, self.interval);
+        let mut restarts = List::from_slice(alloc, self.restarts.as_slice())?;
+        push_restart(&mut restarts, self.entries.len(), self.count, self.interval)?;
+        let mut bytes = Bytes::from_slice(alloc, self.entries.as_slice())?;
+        put_entry(&mut bytes, shared, key, value)?;
+        put_tail(&mut bytes, restarts.as_slice())?;
         Ok(bytes)
     }
 }

@@ -1,0 +1,65 @@
+-- Entries of data blocks: an internal key with a sequence number and a kind, and a value.
+use Rattle.std.specs.Prelude.{ℕ, ◌+◌, ◌-◌, ◌/◌, ◌%◌, Bool, true, false, not, ◌&&◌, ◌||◌, ◌==◌, nat_lt, List, [], ◌∷◌, ◌++◌, length, slice_get, Option, Some, None, Result, Ok, Err, if◌then◌else◌}
+use Rattle.st_base.specs.Order.{is_before}
+use Rattle.st_base.specs.declared.entry.Entry.{Entry}
+use Rattle.st_base.specs.declared.entry.Mark.{Mark}
+use Rattle.st_base.specs.declared.entry.Mark.TheVariants.{Put, Gone}
+use Rattle.st_base.specs.declared.faults.TableFault.{TableFault}
+use Rattle.st_base.specs.declared.faults.TableFault.TheVariants.{Kind, Number, TooLarge, Order}
+use Rattle.st_block.specs.Block.{Cell}
+use Rattle.st_block.specs.InternalKey.{packed, user_key}
+use Rattle.st_table.specs.Steps.{◌>>=◌, unless}
+use Rattle.st_table.specs.declared.kind.TableKind.{TableKind}
+use Rattle.st_table.specs.declared.kind.TableKind.TheVariants.{External, Own}
+
+-- the sequence number and the kind that are packed in an internal key: kind 0 is a tombstone, 1 a value
+abbrev pub number_of : List ℕ → ℕ
+number_of internal = packed internal / 256
+
+abbrev pub kind_of : List ℕ → ℕ
+kind_of internal = packed internal % 256
+
+-- the entry that an internal key and a value are
+abbrev pub mark_under : ℕ → List ℕ → Mark
+mark_under kind value = if kind == 0 then Gone else Put value
+
+abbrev pub entry_under : List ℕ → List ℕ → Entry
+entry_under internal value = record { key = user_key internal; number = number_of internal; mark = mark_under (kind_of internal) value }
+
+-- a kind is at most 1, and a tombstone has no value
+abbrev pub is_kind : ℕ → List ℕ → Bool
+is_kind kind value = nat_lt kind 2 && not ((kind == 0) && nat_lt 0 (length value))
+
+-- entries of external tables have the sequence number 0
+abbrev pub may_have : TableKind → ℕ → Bool
+may_have External number = number == 0
+may_have Own number = true
+
+-- whether the key and the number stand behind an entry, by key upwards and at one key by number downwards; the kind
+-- plays no part in it, so no key and number stands twice
+abbrev pub is_behind : Option Entry → List ℕ → ℕ → Bool
+is_behind None key number = true
+is_behind (Some before) key number = is_before key number before
+
+-- the fault of an entry that stands at a place of the table, behind another
+abbrev pub entry_fault : TableKind → ℕ → Option Entry → List ℕ → List ℕ → Option TableFault
+entry_fault kind place before internal value =
+    if not (is_kind (kind_of internal) value) then Some (Kind place (kind_of internal))
+    else (if not (may_have kind (number_of internal)) then Some (Number place (number_of internal))
+    else (if nat_lt 1048576 (length value) then Some TooLarge
+    else (if not (is_behind before (user_key internal) (number_of internal)) then Some (Order place)
+    else None)))
+
+-- the last of the entries
+abbrev pub last_entry : List Entry → Option Entry
+last_entry entries = slice_get entries (length entries - 1)
+
+-- entries with one more behind them
+abbrev pub with_entry : TableKind → List Entry → List ℕ → List ℕ → Result (List Entry) TableFault
+with_entry kind front internal value =
+    unless (entry_fault kind (length front) (last_entry front) internal value) (Ok (front ++ entry_under internal value ∷ []))
+
+-- entries with those of a block behind them
+abbrev pub with_entries : TableKind → List Entry → List Cell → Result (List Entry) TableFault
+with_entries kind front [] = Ok front
+with_entries kind front (cell ∷ cells) = with_entry kind front cell.key cell.value >>= λ entries. with_entries kind entries cells

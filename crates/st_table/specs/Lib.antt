@@ -1,0 +1,9 @@
+pub mod DataBlocks
+pub mod Entries
+pub mod Footer
+pub mod Found
+pub mod Metaindex
+pub mod Properties
+pub mod Steps
+pub mod Stored
+pub mod Table

@@ -1,0 +1,67 @@
+-- The properties of a table that are looked at; others are passed over.
+use Rattle.std.specs.Prelude.{ℕ, ◌==◌, List, length, codes, Option, Some, None, option_map, option_and_then, if◌then◌else◌}
+use Rattle.std.specs.Int.{w32, from_le_bytes}
+use Rattle.st_base.specs.Bytes.{same}
+use Rattle.st_base.specs.declared.faults.TableFault.{TableFault}
+use Rattle.st_base.specs.declared.faults.TableFault.TheVariants.{ExternalVersion, Comparator, IndexKind}
+use Rattle.st_block.specs.Place.{Contents}
+use Rattle.st_table.specs.Metaindex.{named_in}
+use Rattle.st_table.specs.declared.kind.TableKind.{TableKind}
+use Rattle.st_table.specs.declared.kind.TableKind.TheVariants.{External, Own}
+
+abbrev pub version_name : List ℕ
+version_name = codes "rocksdb.external_sst_file.version"
+
+abbrev pub comparator_name : List ℕ
+comparator_name = codes "rocksdb.comparator"
+
+abbrev pub index_type_name : List ℕ
+index_type_name = codes "rocksdb.block.based.table.index.type"
+
+abbrev pub bytewise : List ℕ
+bytewise = codes "leveldb.BytewiseComparator"
+
+-- the number that a value of four bytes is
+abbrev pub fixed32_value : List ℕ → Option ℕ
+fixed32_value value = if length value == 4 then Some (from_le_bytes w32 value) else None
+
+-- the value of a property
+abbrev pub property : List ℕ → Contents → Option (List ℕ)
+property name block = option_map (λ found. found.1) (named_in name block)
+
+-- the version of external files must be there, and 2
+abbrev pub versioned : Option ℕ → Option TableFault
+versioned None = Some (ExternalVersion None)
+versioned (Some version) = if version == 2 then None else Some (ExternalVersion (Some version))
+
+abbrev pub version_fault : TableKind → Contents → Option TableFault
+version_fault External block = versioned (option_and_then fixed32_value (property version_name block))
+version_fault Own block = None
+
+-- the comparator, where it is there, must be the bytewise one
+abbrev pub compared : Option (List ℕ) → Option TableFault
+compared None = None
+compared (Some value) = if same value bytewise then None else Some Comparator
+
+abbrev pub comparator_fault : Contents → Option TableFault
+comparator_fault block = compared (property comparator_name block)
+
+-- the index type, where it is there, must be 0
+abbrev pub indexed : Option ℕ → Option TableFault
+indexed None = Some IndexKind
+indexed (Some number) = if number == 0 then None else Some IndexKind
+
+abbrev pub typed : Option (List ℕ) → Option TableFault
+typed None = None
+typed (Some value) = indexed (fixed32_value value)
+
+abbrev pub index_type_fault : Contents → Option TableFault
+index_type_fault block = typed (property index_type_name block)
+
+-- the first fault of the properties
+abbrev pub or_else : Option TableFault → Option TableFault → Option TableFault
+or_else None other = other
+or_else (Some fault) other = Some fault
+
+unfoldable pub properties_fault : TableKind → Contents → Option TableFault
+properties_fault kind block = or_else (version_fault kind block) (or_else (comparator_fault block) (index_type_fault block))

@@ -1,0 +1,22 @@
+//! Whole tables: files of RocksDB's block-based format, opened exactly where the bytes are in the format.
+//!
+//! A layer above may rely on this: what `Table::open` accepts is a table of its kind, and the opened table is the list of
+//! its entries; what it refuses has exactly the first fault in reading order. It reads the bytes once, from the footer to
+//! the last data block, and reserves nothing by a count or a length that they state.
+#![tactic(auto)]
+
+mod kind;
+mod fault;
+mod handle;
+mod footer;
+mod stored;
+mod metaindex;
+mod properties;
+mod entries;
+mod data_blocks;
+mod find;
+mod table;
+
+pub use fault::OpenTableFault;
+pub use kind::TableKind;
+pub use table::Table;

@@ -1,0 +1,148 @@
+ghost use Rattle.std.specs.Prelude.{◌≡◌, ◌⊎◌, ◌<◌, ◌^◌, List, Ok, IfOk, IfErr, IsTrue, length, option_map};
+ghost use Rattle.st_base.specs.Rows.{AreRows, entry_of, first_key, last_key, lower_place, mark_of, newest};
+ghost use Rattle.st_base.specs.declared.entry.Entry.{Entry};
+ghost use Rattle.st_table.specs.Steps.{Fails};
+ghost use Rattle.st_table.specs.Table.{acting, keys_rise, table_of};
+
+use crate::data_blocks::data_of;
+use crate::fault::OpenTableFault;
+use crate::find::{entry_ref, lower_in, newest_in};
+use crate::footer::footer_of;
+use crate::kind::TableKind;
+use crate::metaindex::properties_handle;
+use crate::properties::properties_fault;
+use crate::stored::block_at;
+use st_base::{Bytes, Entries, EntryRef, MarkRef, Rows, Scratch};
+use st_block::BlockKind;
+use std::alloc::Global;
+use std::marker::Model;
+use std::sync::Arc;
+
+// The entries of a table of this kind, or its first fault.
+#[tactic(auto, unfolding(crate::specs::Table::table_of))]
+fn table_of(
+    alloc: Global,
+    bytes: &Arc<Bytes>,
+    kind: TableKind,
+) -> Result<Entries, OpenTableFault>
+    ensures ok { IfOk result (λ entries. table_of kind bytes.now.value ≡ Ok entries) }
+    ensures rows { IfOk result AreRows }
+    ensures err { IfErr result (λ fault. Fails fault (table_of kind bytes.now.value)) }
+{
+    let text = bytes.as_slice();
+    let footer = footer_of(text, kind)?;
+    let mut scratch = Scratch::new(alloc)?;
+    let metaindex = block_at(bytes, footer.metaindex, BlockKind::Plain, &mut scratch)?;
+    let handle = properties_handle(text, footer.metaindex.offset, &metaindex, &mut scratch)?;
+    let properties = block_at(bytes, handle, BlockKind::Plain, &mut scratch)?;
+    match properties_fault(kind, &properties, &mut scratch) {
+        Some(fault) => Err(fault.into()),
+        None => {
+            let index = block_at(bytes, footer.index, BlockKind::Index, &mut scratch)?;
+            data_of(alloc, bytes, kind, footer.index.offset, &index)
+        }
+    }
+}
+
+// The entries under the number of their table.
+fn renumbered(entries: Entries, number: u64) -> Entries
+    ensures { result ≡ acting number entries }
+{
+    if number == 0 {
+        return entries;
+    }
+    let mut items = entries.into_vec();
+    for place in 0..items.len() {
+        items[place].number = number;
+    }
+    Entries::from(items)
+}
+
+/// An opened table, seen as the list of its entries. It keeps them decoded, so a look-up reads no block.
+#[derive(Drop)]
+pub struct Table {
+    entries: Entries,
+}
+
+impl Model for Table {
+    ghost use Rattle.std.specs.Prelude.{List};
+    ghost use Rattle.st_base.specs.Rows.{AreRows};
+    ghost use Rattle.st_base.specs.declared.entry.Entry.{Entry};
+
+    ghost Value = { List Entry };
+
+    ghost view = { λ table. table.entries };
+
+    ghost invariant = { λ table. AreRows table.entries };
+}
+
+impl Table {
+    /// The table of this kind that the bytes are. Its entries act under the number, or under their own where that is 0.
+    ///
+    /// `Bad` comes exactly where the bytes are no table of the kind, with their first fault in reading order. The work is
+    /// linear in the bytes and the keys' lengths. The decoded keys are whole, so that those of a table that shares much
+    /// between keys take more room than its bytes.
+    pub fn open(
+        alloc: Global,
+        bytes: Arc<Bytes>,
+        kind: TableKind,
+        number: u64,
+    ) -> Result<Table, OpenTableFault>
+        requires { (number ≡ 0) ⊎ ((entries : List Entry) → table_of kind bytes.value ≡ Ok entries → IsTrue (keys_rise entries)) }
+        ensures ok { IfOk result (λ table. ((entries : List Entry) × (table_of kind bytes.value ≡ Ok entries) × (table ≡ acting number entries))) }
+        ensures bad { IfErr result (λ fault. Fails fault (table_of kind bytes.value)) }
+    {
+        let entries = table_of(alloc, &bytes, kind)?;
+        Ok(Table {
+            entries: renumbered(entries, number),
+        })
+    }
+
+    /// The number and the mark of the first entry of the key at or below the number: None exactly where there is none. It
+    /// searches the entries by halves.
+    pub fn find<'a>(
+        &'a self,
+        key: &[u8],
+        number: u64,
+        _scratch: &mut Scratch,
+    ) -> Option<(u64, MarkRef<'a>)>
+        ensures { option_map (λ found. (found.0, mark_of found.1)) result ≡ newest self.now key.now number }
+    {
+        newest_in(self.entries.as_slice(), key, number)
+    }
+}
+
+impl Rows for Table {
+    ghost rows = { λ table. table };
+
+    fn len(&self) -> usize {
+        self.entries.len()
+    }
+
+    fn at<'a>(&'a self, place: usize, _scratch: &'a mut Scratch) -> EntryRef<'a> {
+        entry_ref(&self.entries.as_slice()[place])
+    }
+
+    fn lower(&self, key: &[u8], number: u64, _scratch: &mut Scratch) -> usize {
+        lower_in(self.entries.as_slice(), key, number)
+    }
+
+    fn first(&self) -> Option<&[u8]> {
+        let entry = self.entries.as_slice().first()?;
+        Some(entry.key.as_bytes())
+    }
+
+    fn last(&self) -> Option<&[u8]> {
+        let entry = self.entries.as_slice().last()?;
+        Some(entry.key.as_bytes())
+    }
+
+    fn newest<'a>(
+        &'a self,
+        key: &[u8],
+        number: u64,
+        _scratch: &mut Scratch,
+    ) -> Option<(u64, MarkRef<'a>)> {
+        newest_in(self.entries.as_slice(), key, number)
+    }
+}
