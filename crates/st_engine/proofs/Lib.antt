@@ -3,3 +3,4 @@ pub mod Marks
 pub mod Open
 pub mod Rooms
 pub mod Write
+pub mod Writing

@@ -14,8 +14,7 @@ ghost use Rattle.st_engine.specs.Newest.{HasRoom, newest_at};
 ghost use Rattle.st_engine.specs.Op.{marks_after_all};
 
 use crate::ChangeFault;
-use crate::ops::{charge_with, logged_ops};
-use crate::store::Store;
+use crate::store::{Prepared, Store};
 use st_base::{Family, Key, Value};
 use st_device::Disk;
 use st_model::{Batch, Refusal};
@@ -157,5 +156,47 @@ impl<D: Disk> Engine<D> {
                 Err(Refusal::DiskFault)
             }
         }
+    }
+
+    /// Makes a write, durably: all its operations or none. The batch is within the limits of a write.
+    ///
+    /// The refusals come in this order: that a fault stopped the engine before, a family that isn't there, numbers spent,
+    /// the store full, a disk fault. All memory is taken before the first device call.
+    pub fn write(&mut self, batch: &Batch) -> Result<Wrote, ChangeFault>
+        requires limits { IsWrite batch.now.ops }
+        requires tied { IsHonest (D.tells self.old.disk) → self.old.stopped ≡ None → IsTied self.old.wal self.old.store (D.tells self.old.disk) }
+
+        // An accepted write is the model's, and the engine then stands for the state after it.
+        ensures accepted { OnOk result ((state : ModelState) → Stands self.old.store state → Stands self.new.store (written state batch.now)) }
+        ensures numbers { IfOk result (λ wrote. (state : ModelState) → Stands self.old.store state → IsAccepted self.old.store.capacity state batch.now wrote) }
+        // A refused one is refused by the first refusal that holds, and changes no answer.
+        ensures refused { IfErr result (λ refusal. (state : ModelState) → Stands self.old.store state → IsFirst (write_refusals state self.old.store.capacity batch.now.ops) refusal) }
+        ensures stays { OnErr result ((state : ModelState) → Stands self.old.store state → Stands self.new.store state) }
+
+        // Each image of a crash within the call opens to the contents before the write or after it; after Ok to the latter.
+        ensures crash { IsHonest (D.tells self.old.disk) → self.old.stopped ≡ None → (state : ModelState) → Stands self.old.store state → Leaves (λ image. OpensTo state image ⊎ OpensTo (written state batch.now) image) (D.tells self.old.disk) (D.tells self.new.disk) }
+        ensures after { IsHonest (D.tells self.old.disk) → OnOk result ((state : ModelState) → Stands self.old.store state → (image : Image) → (D.tells self.new.disk).now image → OpensTo (written state batch.now) image) }
+        ensures tied { IsHonest (D.tells self.old.disk) → self.new.stopped ≡ None → IsTied self.new.wal self.new.store (D.tells self.new.disk) }
+
+        // A disk fault stops the engine, which makes no further device call.
+        ensures stopped { IsErrOf result Refusal.Stopped ↔ IsSome self.old.stopped }
+        ensures fault { IsErrOf result Refusal.DiskFault → self.new.stopped ≡ Some (D.tells self.new.disk).faults }
+        ensures keeps { (IsErrOf result Refusal.DiskFault → ⊥) → self.new.stopped ≡ self.old.stopped }
+        ensures untouched { IfErr result (λ refusal. (refusal ≡ Refusal.DiskFault → ⊥) → self.new.disk ≡ self.old.disk) }
+
+        ensures options { (self.new.store.behind ≡ self.old.store.behind) × (self.new.store.capacity ≡ self.old.store.capacity) }
+        ensures passes { Passes (D.tells self.old.disk) (D.tells self.new.disk) }
+        ensures cause { IsErrOf result Refusal.DiskFault → Rose (D.tells self.old.disk).faults (D.tells self.new.disk).faults }
+    {
+        if self.stopped.is_some() {
+            return Err(Refusal::Stopped);
+        }
+        let prepared = self.store.prepare(self.alloc, batch.ops.as_slice())?;
+        let Prepared {
+            record,
+            ops,
+            charge,
+        } = prepared;
+        self.append(&record, ops, charge)
     }
 }

@@ -1,23 +1,25 @@
 // The store in memory.
-ghost use Rattle.std.specs.Prelude.{◌≡◌, ◌+◌, ◌≤◌, ◌<◌, ◌∷◌, [], ℕ, List, length, map, slice_get, IfErr, IfOk, IfNone, OnOk, false, Some};
+ghost use Rattle.std.specs.Prelude.{◌≡◌, ◌+◌, ◌≤◌, ◌<◌, ◌∷◌, [], ℕ, List, length, map, slice_get, IfErr, IfOk, IfNone, IfSome, OnOk, false, None, Some};
 ghost use Rattle.std.specs.List.{AllByRecursion as Each};
 ghost use Rattle.st_base.specs.Map.{value_at};
 ghost use Rattle.st_model.specs.declared.state.ModelState.{ModelState};
 ghost use Rattle.st_model.specs.Answer.{found, get_answer, unknown_families, write_refusals};
-ghost use Rattle.st_model.specs.Apply.{op_key};
+ghost use Rattle.st_base.specs.Entries.{add_charge};
+ghost use Rattle.st_model.specs.Apply.{op_key, write_charge};
 ghost use Rattle.st_model.specs.Legal.{is_stop};
 ghost use Rattle.st_model.specs.Contents.{opened};
 ghost use Rattle.st_recover.specs.Contents.{contents_of, known_of, written_marks};
 ghost use Rattle.st_recover.specs.Opens.{last_number};
 ghost use Rattle.st_engine.specs.Newest.{HasRoom, newest_at, shown};
-ghost use Rattle.st_engine.specs.Op.{marks_after_all};
+ghost use Rattle.st_engine.specs.Op.{IsWrite, logged_op, marks_after_all};
+ghost use Rattle.st_wal.specs.Batch.{batch_of};
 
 use crate::newest::Newest;
-use crate::ops::{charge_with, first_stranger};
+use crate::ops::{charge_with, first_stranger, logged_ops};
 use crate::{ChangeFault, Options, Wrote};
 use st_base::{Family, Key, List, Mark, Value};
 use st_model::{Op, Refusal, Reply};
-use st_wal::{Logged, Operation};
+use st_wal::{LogRecord, Logged, Operation};
 use std::alloc::{AllocError, Global};
 
 /// The greatest sequence number and the greatest place: 2^56 - 1.
@@ -35,6 +37,15 @@ pub struct Store {
     pub charge: u64,
     pub behind: bool,
     pub capacity: u64,
+}
+
+/// A write with all that it needs of memory.
+#[derive(Drop)]
+pub struct Prepared {
+    pub record: LogRecord,
+    pub ops: Vec<Operation>,
+    /// The store's charge with that of the write.
+    pub charge: u64,
 }
 
 // The mark, where the contents keep it.
@@ -103,8 +114,9 @@ impl Store {
         })
     }
 
-    /// The first refusal that holds of a write.
-    pub fn first_refusal(&self, ops: &[Op]) -> Result<Option<Refusal>, AllocError>
+    // The first refusal that holds of a write.
+    fn first_refusal(&self, ops: &[Op]) -> Result<Option<Refusal>, AllocError>
+        ensures no_stop { IfOk result (λ refusal. IfSome refusal (λ refusal. is_stop (Reply.Refused refusal) ≡ false)) }
         ensures room { IfOk result (λ refusal. IfNone refusal ((self.now.last + length ops.now ≤ GREATEST_NUMBER) × (self.now.place < GREATEST_NUMBER))) }
         ensures first { IfOk result (λ refusal. (state : ModelState) → Stands self.now state → refusal ≡ slice_get (write_refusals state self.now.capacity ops.now) 0) }
     {
@@ -139,12 +151,39 @@ impl Store {
         }
     }
 
-    /// Makes a place for the mark of each key that the operations name. Nothing else changes, with every answer.
-    pub fn make_room(&mut self, ops: &[Op]) -> Result<(), AllocError>
+    // Makes a place for the mark of each key that the operations name. Nothing else changes, with every answer.
+    fn make_room(&mut self, ops: &[Op]) -> Result<(), AllocError>
         ensures same { IsSameStore self.old self.new }
         ensures room { OnOk result (Each (λ op. HasRoom self.new.newest (op_key op)) ops.now) }
     {
         self.newest.make_rooms(ops)
+    }
+
+    /// Tests a write, and takes all the memory that it needs. What the store stands for stays, with every answer.
+    pub fn prepare(&mut self, alloc: Global, ops: &[Op]) -> Result<Prepared, ChangeFault>
+        requires { IsWrite ops.now }
+        ensures same { IsSameStore self.old self.new }
+        ensures record { IfOk result (λ prepared. batch_of prepared.record ≡ Some (record { first = self.old.last + 1; operations = map logged_op ops.now })) }
+        ensures ops { IfOk result (λ prepared. prepared.ops.items ≡ map logged_op ops.now) }
+        ensures room { IfOk result (λ prepared. Each (λ operation. HasRoom self.new.newest operation.1) prepared.ops.items) }
+        ensures charge { IfOk result (λ prepared. prepared.charge ≡ add_charge self.old.charge (write_charge ops.now)) }
+        ensures last { OnOk result (self.new.last + length ops.now ≤ GREATEST_NUMBER) }
+        ensures place { OnOk result (self.new.place < GREATEST_NUMBER) }
+        ensures unrefused { OnOk result ((state : ModelState) → Stands self.old state → slice_get (write_refusals state self.old.capacity ops.now) 0 ≡ None) }
+        ensures refused { IfErr result (λ refusal. (state : ModelState) → Stands self.old state → IsFirst (write_refusals state self.old.capacity ops.now) refusal) }
+        ensures no_stop { IfErr result (λ refusal. is_stop (Reply.Refused refusal) ≡ false) }
+    {
+        if let Some(refusal) = self.first_refusal(ops)? {
+            return Err(refusal);
+        }
+        let logged = logged_ops(alloc, ops)?;
+        self.make_room(ops)?;
+        let record = LogRecord::new(alloc, self.last + 1, &logged)?;
+        Ok(Prepared {
+            record,
+            ops: logged,
+            charge: charge_with(self.charge, ops),
+        })
     }
 
     /// Takes a write in, whose operations are on the disk. It takes no memory.
