@@ -1,6 +1,6 @@
 -- A write, on the store and on the disk, over plain variables.
 use Rattle.std.proofs.Common.{◌≡◌, ◌⊎◌, inl, inr, ⊎_elim, ℕ, ◌+◌, ◌<◌, ◌≤◌, false, List, [], ◌∷◌, ◌++◌, map, length, Option, Some, None, Ok, slice_get, refl, sym, ◌∙◌, ap, subst, arith, lit<, true≢false}
-use Rattle.std.specs.Prelude.{Bool, Result, option_map}
+use Rattle.std.specs.Prelude.{Bool, Result, Err, IfErr, IsErrAnd, OnErr, OnOk, option_map}
 use Rattle.std.specs.Result.{result_ok}
 use Rattle.std.specs.List.{AllByRecursion as Each}
 use Rattle.std.proofs.lemmas.List.{length-map}
@@ -33,7 +33,7 @@ use Rattle.st_engine.specs.Op.{logged_op, marks_after_all, strangers}
 use Rattle.st_engine.specs.Store.{Holds, IsAdvanced, IsFirst, IsSameStore, Stands}
 use Rattle.st_engine.specs.declared.newest.Newest.{Newest}
 use Rattle.st_engine.specs.declared.store.Store.{Store}
-use Rattle.st_engine.proofs.Write.{accepted_known, after_all_shown, contents_is, family_after, family_base, family_id, family_ranges, marks_all, marks_same, more_last, more_sound, with_ops_is, written_more}
+use Rattle.st_engine.proofs.Write.{accepted_known, after_all_same, after_all_shown, contents_is, family_after, family_base, family_id, family_ranges, marks_all, marks_same, more_last, more_sound, with_ops_is, written_more}
 
 -- ---- the operations of a write
 
@@ -188,3 +188,49 @@ tied_opens {a} wal store state tied stands image now =
     contents_is (newest_at store.newest) state stands.family logs stands.families stands.id stands.ranges stands.sorted stands.marks (stands.last ∙ tied.holds.last)
     (subst (λ (b : Bool). (q : List ℕ) → shown b (newest_at store.newest q) ≡ shown b (value_at (written_marks logs) q)) (sym stands.behind) tied.holds.marks) in
     in_image state.behind image logs (store_opens wal tied.on_disk image now) ∙ ap Some (sym before)
+
+-- ---- from the store that was prepared
+
+pub same_advanced : (old mid new : Store) (count : ℕ) (count' : ℕ) (sum : ℕ) → count' ≡ count → IsSameStore old mid → IsAdvanced mid new count' sum → IsAdvanced old new count sum
+same_advanced old mid new count count' sum is same h = record {
+  place = h.place ∙ ap (λ n. n + 1) same.numbers.place;
+  last = h.last ∙ ap (λ n. n + count') same.numbers.last ∙ ap (λ n. old.last + n) is;
+  charge = h.charge;
+  behind = h.behind ∙ same.numbers.behind;
+  capacity = h.capacity ∙ same.numbers.capacity;
+}
+
+pub same_marks : (old mid new : Newest) (ops ops' : List Operation) → ops' ≡ ops → ((key : List ℕ) → newest_at mid key ≡ newest_at old key) → ((key : List ℕ) → newest_at new key ≡ marks_after_all (newest_at mid) ops' key)
+    → (key : List ℕ) → newest_at new key ≡ marks_after_all (newest_at old) ops key
+same_marks old mid new ops ops' is same h key = h key ∙ after_all_same (newest_at mid) (newest_at old) ops' same key ∙ ap (λ l. marks_after_all (newest_at old) l key) is
+
+-- ---- answers
+
+pub ok_both : {T E P Q R : Type 0} (r : Result T E) → (P → Q → R) → OnOk r P → OnOk r Q → OnOk r R
+ok_both (Ok x) f p q = f p q
+ok_both (Err e) f p q = tt
+
+pub ok_fact : {T E P : Type 0} (r : Result T E) → P → OnOk r P
+ok_fact (Ok x) p = p
+ok_fact (Err e) p = tt
+
+pub err_map : {T E P Q : Type 0} (r : Result T E) → (P → Q) → OnErr r P → OnErr r Q
+err_map (Ok x) f p = tt
+err_map (Err e) f p = f p
+
+pub err_fact : {T E P : Type 0} (r : Result T E) → P → OnErr r P
+err_fact (Ok x) p = tt
+err_fact (Err e) p = p
+
+pub if_err_map : {T E : Type 0} (P Q : E → Type 0) (r : Result T E) → ((e : E) → P e → Q e) → IfErr r P → IfErr r Q
+if_err_map P Q (Ok x) f p = tt
+if_err_map P Q (Err e) f p = f e p
+
+pub if_err_gives : {T E : Type 0} (Q : E → Type 0) (r : Result T E) (e : E) → IsErrAnd r (λ x. x ≡ e) → Q e → IfErr r Q
+if_err_gives Q (Ok x) e is q = tt
+if_err_gives Q (Err x) e is q = subst Q (sym is) q
+
+-- whether it is Ok or not
+pub either_answer : {T E P : Type 0} (r : Result T E) → OnOk r P → OnErr r P → P
+either_answer (Ok x) p q = p
+either_answer (Err e) p q = q
