@@ -1,4 +1,3 @@
-pub mod Default
-pub mod Ends
+pub mod Answering
+pub mod Fits
 pub mod Printed
-pub mod Write

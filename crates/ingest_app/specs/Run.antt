@@ -1,16 +1,21 @@
 -- How a run ends, and what it has written then.
-use Rattle.std.specs.Prelude.{ℕ, ◌≡◌, ◌⊎◌, ◌&&◌, IsTrue, ⊤, List, [], ◌∷◌, ◌++◌, map, codes, if◌then◌else◌, String, string_bytes}
+use Rattle.std.specs.Prelude.{ℕ, ◌≡◌, ◌⊎◌, ◌&&◌, IsTrue, true, false, ⊤, List, [], ◌∷◌, ◌++◌, map, codes, if◌then◌else◌, String, string_bytes}
 use Rattle.std.specs.Prelude.{Option, Some, None, Result, Ok, Err, IsSomeAnd}
 use Rattle.std.specs.Fmt.{decimal}
 use Rattle.st_base.specs.Bytes.{same}
 use Rattle.st_base.specs.Names.{is_name}
 use Rattle.st_base.specs.Count.{Rose}
+use Rattle.st_device.specs.Disk.{Told, IsHonest, Leaves}
+use Rattle.st_recover.specs.Opens.{opens, Damage}
+use Rattle.st_recover.specs.declared.fault.OpenFault.{OpenFault}
+use Rattle.st_recover.specs.declared.fault.OpenFault.TheVariants as opening
 use Rattle.st_stream.specs.Inputs.{InputsTold}
 use Rattle.st_stream.specs.Sink.{SinkTold, AppendsPrefix}
+use Rattle.st_wal.specs.declared.logged.Logged.{Logged}
 use Rattle.cmd_text.specs.declared.script.Numbered.{Numbered}
-use Rattle.ingest_app.specs.Client.{client_script, Answers}
+use Rattle.ingest_app.specs.Client.{client_script, IsRun}
 use Rattle.ingest_app.specs.declared.status.Status.{Status}
-use Rattle.ingest_app.specs.declared.status.Status.TheVariants.{Done, Memory, InputFault, SinkFault, Script, NotYet}
+use Rattle.ingest_app.specs.declared.status.Status.TheVariants.{Done, Memory, InputFault, DiskFault, SinkFault, Script, Damaged, NotYet}
 
 -- the name of the client, where the words are `run NAME`
 abbrev pub client_of : List (List ℕ) → Option (List ℕ)
@@ -28,13 +33,48 @@ input_text name = codes "input " ++ name ++ 10 ∷ []
 abbrev pub script_text : List ℕ → ℕ → List ℕ
 script_text name line = codes "script " ++ name ++ codes " " ++ decimal line ++ 10 ∷ []
 
+abbrev pub disk_text : List ℕ
+disk_text = codes "disk" ++ 10 ∷ []
+
+abbrev pub damaged_text : ℕ → ℕ → List ℕ
+damaged_text file at = codes "damaged " ++ decimal file ++ codes " " ++ decimal at ++ 10 ∷ []
+
 -- ---- what is to be written
 
--- the client's file has these commands, and the text is their transcript
-pub record IsAnswered (file : Option (List ℕ)) (name text : List ℕ) : Type 0 where
+-- each image of a crash within an opening that failed is one that a crash before it could leave, or has what was read
+abbrev pub StaysAsRead : Told → Told → Type 0
+StaysAsRead before after = IsHonest before → Leaves (λ image. before.now image ⊎ (opens image ≡ opens before.reads)) before after
+
+-- the opening of the disk failed
+pub record IsUnopened (text : List ℕ) (before after : Told) : Type 0 where
+  pub printed : text ≡ disk_text
+  pub stays : StaysAsRead before after
+
+-- the disk's store is damaged, which the text names
+pub record IsDamagedStore (text : List ℕ) (before after : Told) : Type 0 where
+  pub damage : Damage
+  pub found : IsHonest before → opens before.reads ≡ Err damage
+  pub printed : text ≡ damaged_text damage.file damage.at
+  pub stays : StaysAsRead before after
+
+-- what is told of an opening that failed
+abbrev pub EndsOpening : OpenFault → Status → List ℕ → Type 0
+EndsOpening (opening.Damaged file at) status text = (status ≡ Damaged) × (text ≡ damaged_text file at)
+EndsOpening opening.DiskFault status text = (status ≡ DiskFault) × (text ≡ disk_text)
+EndsOpening opening.OutOfMemory status text = ⊥
+
+-- The commands of a client may end with this status over the disk, if the sink takes this text.
+abbrev pub EndsScript : List Numbered → List ℕ → Told → Told → Status → List ℕ → Type 0
+EndsScript commands name before after Done text = IsRun name commands text before after false
+EndsScript commands name before after DiskFault text = IsRun name commands text before after true ⊎ IsUnopened text before after
+EndsScript commands name before after Damaged text = IsDamagedStore text before after
+EndsScript commands name before after other text = ⊥
+
+-- the client's file has commands, and they end so
+pub record IsScript (file : Option (List ℕ)) (name : List ℕ) (before after : Told) (status : Status) (text : List ℕ) : Type 0 where
   pub commands : List Numbered
   pub read : client_script file ≡ Ok commands
-  pub answers : Answers name commands text
+  pub ends : EndsScript commands name before after status text
 
 -- the client's file is no script, and the text names its first faulty line
 pub record IsFaulty (file : Option (List ℕ)) (name text : List ℕ) : Type 0 where
@@ -43,30 +83,37 @@ pub record IsFaulty (file : Option (List ℕ)) (name text : List ℕ) : Type 0 w
   pub printed : text ≡ script_text name line
 
 -- The run of a client whose file this is may end with this status, if the sink takes this text.
-abbrev pub EndsClient : Option (List ℕ) → List ℕ → Status → List ℕ → Type 0
-EndsClient file name Done text = IsAnswered file name text
-EndsClient file name Script text = IsFaulty file name text
-EndsClient file name other text = ⊥
+abbrev pub EndsClient : Option (List ℕ) → List ℕ → Told → Told → Status → List ℕ → Type 0
+EndsClient file name before after Script text = IsFaulty file name text
+EndsClient file name before after status text = IsScript file name before after status text
 
 -- the statuses that a client's file can lead to
 abbrev pub IsOfFile : Status → Type 0
 IsOfFile Done = ⊤
+IsOfFile DiskFault = ⊤
+IsOfFile Damaged = ⊤
 IsOfFile Script = ⊤
 IsOfFile other = ⊥
 
+-- the disk failed in this run
+abbrev pub Faulted : Told → Told → Type 0
+Faulted before after = Rose before.faults after.faults
+
 -- The run of a client of this name may end with this status, if the sink takes this text. Where the inputs don't tell
 -- their bytes, nothing is said of the file.
-abbrev pub EndsNamed : List ℕ → InputsTold → InputsTold → Status → List ℕ → Type 0
-EndsNamed name before after Done text = IsTrue before.known → EndsClient (before.file name) name Done text
-EndsNamed name before after InputFault text = Rose before.faults after.faults × (text ≡ input_text name)
-EndsNamed name before after Script text = IsTrue before.known → EndsClient (before.file name) name Script text
-EndsNamed name before after other text = ⊥
+abbrev pub EndsNamed : List ℕ → InputsTold → InputsTold → Told → Told → Status → List ℕ → Type 0
+EndsNamed name before after disk left Done text = IsTrue before.known → EndsClient (before.file name) name disk left Done text
+EndsNamed name before after disk left InputFault text = Rose before.faults after.faults × (text ≡ input_text name)
+EndsNamed name before after disk left DiskFault text = Faulted disk left × (IsTrue before.known → EndsClient (before.file name) name disk left DiskFault text)
+EndsNamed name before after disk left Script text = IsTrue before.known → EndsClient (before.file name) name disk left Script text
+EndsNamed name before after disk left Damaged text = IsTrue before.known → EndsClient (before.file name) name disk left Damaged text
+EndsNamed name before after disk left other text = ⊥
 
 -- A run of these words may end with this status, if the sink takes this text.
-abbrev pub Ends : List (List ℕ) → InputsTold → InputsTold → Status → List ℕ → Type 0
-Ends words before after Memory text = text ≡ []
-Ends words before after NotYet text = (client_of words ≡ None) × (text ≡ not_yet_text)
-Ends words before after status text = IsSomeAnd (client_of words) (λ name. EndsNamed name before after status text)
+abbrev pub Ends : List (List ℕ) → InputsTold → InputsTold → Told → Told → Status → List ℕ → Type 0
+Ends words before after disk left Memory text = text ≡ []
+Ends words before after disk left NotYet text = (client_of words ≡ None) × (text ≡ not_yet_text)
+Ends words before after disk left status text = IsSomeAnd (client_of words) (λ name. EndsNamed name before after disk left status text)
 
 -- ---- what is written
 
@@ -79,14 +126,14 @@ abbrev pub WritesPrefix : SinkTold → SinkTold → List ℕ → Type 0
 WritesPrefix before after text = IsTrue before.known → AppendsPrefix before.written after.written text
 
 -- the run ended with this status and wrote the text of it; or the sink failed while it took the text of some status
-abbrev pub Ended : List (List ℕ) → InputsTold → InputsTold → SinkTold → SinkTold → Status → Type 0
-Ended words before after sink_before sink_after SinkFault =
+abbrev pub Ended : List (List ℕ) → InputsTold → InputsTold → Told → Told → SinkTold → SinkTold → Status → Type 0
+Ended words before after disk left sink_before sink_after SinkFault =
     Rose sink_before.faults sink_after.faults
-    × ((status : Status) × (text : List ℕ) × Ends words before after status text × WritesPrefix sink_before sink_after text)
-Ended words before after sink_before sink_after status =
-    (text : List ℕ) × Ends words before after status text × Writes sink_before sink_after text
+    × ((status : Status) × (text : List ℕ) × Ends words before after disk left status text × WritesPrefix sink_before sink_after text)
+Ended words before after disk left sink_before sink_after status =
+    (text : List ℕ) × Ends words before after disk left status text × Writes sink_before sink_after text
 
--- ---- what a client's file is
+-- ---- what a client's file and the disk are
 
 -- the words name a client whose file has commands
 abbrev pub HasScript : List (List ℕ) → InputsTold → Type 0
@@ -95,3 +142,18 @@ HasScript words inputs = IsSomeAnd (client_of words) (λ name. (commands : List 
 -- the words name a client whose file isn't there, is too long, or has a faulty line
 abbrev pub HasFault : List (List ℕ) → InputsTold → Type 0
 HasFault words inputs = IsSomeAnd (client_of words) (λ name. (line : ℕ) × (client_script (inputs.file name) ≡ Err line))
+
+-- the disk tells what it reads, and this is a store
+abbrev pub HasStore : Told → Type 0
+HasStore disk = IsHonest disk × ((ops : List Logged) × (opens disk.reads ≡ Ok ops))
+
+-- the disk reads a damaged store
+abbrev pub IsDamaged : Told → Type 0
+IsDamaged disk = (damage : Damage) × (opens disk.reads ≡ Err damage)
+
+-- the statuses with which the disk comes back as it was
+abbrev pub IsBeforeDisk : Status → Type 0
+IsBeforeDisk InputFault = ⊤
+IsBeforeDisk Script = ⊤
+IsBeforeDisk NotYet = ⊤
+IsBeforeDisk other = ⊥

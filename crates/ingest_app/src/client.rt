@@ -1,13 +1,25 @@
 //! The commands of one client, answered in order.
-ghost use Rattle.std.specs.Prelude.{◌≡◌, [], IfOk, OnOk};
-ghost use Rattle.ingest_app.specs.Client.{Answers, transcript};
-ghost use Rattle.ingest_app.specs.Store.{Prints};
+ghost use Rattle.std.specs.Prelude.{◌≡◌, ◌⊎◌, [], IfOk, OnOk, None, is_some};
+ghost use Rattle.std.specs.List.{AllByRecursion as Each};
+ghost use Rattle.st_base.specs.Count.{Rose};
+ghost use Rattle.st_device.specs.Disk.{IsHonest, Passes};
+ghost use Rattle.st_engine.specs.Engine.{IsTied};
+ghost use Rattle.st_engine.specs.Store.{Stands};
+ghost use Rattle.st_model.specs.declared.state.ModelState.{ModelState};
+ghost use Rattle.ingest_app.specs.Client.{IsAnswered, transcript};
+ghost use Rattle.ingest_app.specs.Answer.{Prints};
+ghost use Rattle.ingest_app.specs.Op.{Fits};
 
-use crate::store::{CAPACITY, Store};
+use crate::answer::answer_command;
 use cmd_text::{Script, push_reply};
 use st_base::Bytes;
+use st_device::Disk;
+use st_engine::Engine;
 use st_model::Command;
 use std::alloc::{AllocError, Global};
+
+/// The greatest charge of the program's store, in bytes.
+pub const CAPACITY: u64 = 1_073_741_824;
 
 // The first line of a transcript.
 fn heading(alloc: Global, name: &str) -> Result<Bytes, AllocError>
@@ -20,21 +32,42 @@ fn heading(alloc: Global, name: &str) -> Result<Bytes, AllocError>
 }
 
 // Answers one command, and prints the answer behind the text.
-fn answer_command(store: &mut Store, command: Command, text: &mut Bytes) -> Result<(), AllocError>
-    ensures { OnOk result (Prints store.old store.new CAPACITY command text.old text.new) }
+fn print_answer<D: Disk>(
+    engine: &mut Engine<D>,
+    command: &Command,
+    text: &mut Bytes,
+) -> Result<(), AllocError>
+    requires limits { Fits command.now }
+    requires tied { IsHonest (D.tells engine.old.disk) → engine.old.stopped ≡ None → IsTied engine.old.wal engine.old.store (D.tells engine.old.disk) }
+    ensures printed { OnOk result (Prints engine.old.store engine.new.store engine.old.stopped engine.new.stopped (D.tells engine.old.disk) (D.tells engine.new.disk) command.now text.old text.new) }
+    ensures tied { IsHonest (D.tells engine.old.disk) → engine.new.stopped ≡ None → IsTied engine.new.wal engine.new.store (D.tells engine.new.disk) }
+    ensures still { (engine.old.stopped ≡ None) ⊎ (engine.new.disk ≡ engine.old.disk) }
+    ensures cause { (engine.new.stopped ≡ engine.old.stopped) ⊎ Rose (D.tells engine.old.disk).faults (D.tells engine.new.disk).faults }
+    ensures options { (engine.new.store.behind ≡ engine.old.store.behind) × (engine.new.store.capacity ≡ engine.old.store.capacity) }
+    ensures passes { Passes (D.tells engine.old.disk) (D.tells engine.new.disk) }
 {
-    let answer = store.answer(command)?;
+    let answer = answer_command(engine, command)?;
     push_reply(text, answer.place, &answer.reply)
 }
 
-/// Answers the commands of a client of a new store, and gives its transcript.
-pub fn answer_script(alloc: Global, name: &str, script: Script) -> Result<Bytes, AllocError>
-    ensures { IfOk result (Answers name.now script.commands) }
+/// Answers the commands of a client over a store that was just opened, and gives its transcript.
+pub fn answer_script<D: Disk>(
+    alloc: Global,
+    name: &str,
+    script: &Script,
+    engine: &mut Engine<D>,
+) -> Result<Bytes, AllocError>
+    requires limits { Each (λ numbered. Fits numbered.command) script.now.commands }
+    requires tied { IsHonest (D.tells engine.old.disk) → IsTied engine.old.wal engine.old.store (D.tells engine.old.disk) }
+    requires running { engine.old.stopped ≡ None }
+    requires capacity { engine.old.store.capacity ≡ CAPACITY }
+    ensures answered { IfOk result (λ text. (opening : ModelState) → Stands engine.old.store opening → opening.place ≡ 0 → IsAnswered name.now script.now.commands text opening (D.tells engine.old.disk) (D.tells engine.new.disk) (is_some engine.new.stopped)) }
+    ensures cause { (engine.new.stopped ≡ None) ⊎ Rose (D.tells engine.old.disk).faults (D.tells engine.new.disk).faults }
+    ensures passes { Passes (D.tells engine.old.disk) (D.tells engine.new.disk) }
 {
-    let mut store = Store::new(alloc);
     let mut text = heading(alloc, name)?;
-    for numbered in script.commands.into_vec() {
-        answer_command(&mut store, numbered.command, &mut text)?;
+    for numbered in script.commands.as_slice() {
+        print_answer(engine, &numbered.command, &mut text)?;
     }
     Ok(text)
 }

@@ -4,18 +4,20 @@
 //! output.
 #![tactic(auto)]
 
+mod answer;
 mod client;
 mod outcome;
 mod run;
 mod status;
-mod store;
 #[cfg(test)]
 mod tests;
 
 pub use run::run;
+use st_device::FolderDisk;
 use st_stream::{FolderInputs, StdSink};
 pub use status::Status;
 use std::env::{self, Env};
+use std::fs::File;
 use std::io;
 use std::process::ExitCode;
 use std::rt::Files;
@@ -30,11 +32,13 @@ fn words_of<R: Env + AllocGlobal>(rt: &R) -> io::Result<Vec<String>> {
 }
 
 // Runs the words over the working folder and standard output.
-fn run_here<R: Files + Print + Env + AllocGlobal + Clone>(rt: &R) -> io::Result<Status> {
+fn run_here<R: Files<File = File> + Print + Env + AllocGlobal + Clone + Drop>(rt: &R) -> io::Result<Status> {
     let words = words_of(rt)?;
     let mut inputs = FolderInputs::new(rt.clone()?);
     let mut sink = StdSink::new(rt.clone()?);
-    Ok(run(rt.alloc(), words.as_slice(), &mut inputs, &mut sink))
+    let disk = FolderDisk::new(rt.clone()?);
+    let (status, _) = run(rt.alloc(), words.as_slice(), disk, &mut inputs, &mut sink);
+    Ok(status)
 }
 
 // Only want of memory keeps the words from being read.

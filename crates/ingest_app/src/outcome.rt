@@ -1,15 +1,24 @@
 //! What a run is to write, before the sink takes it.
-ghost use Rattle.std.specs.Prelude.{◌≡◌, ◌≤◌, ℕ, List, Option, Some, length, IfOk, IfSome, IsTrue, map, String, string_bytes};
+ghost use Rattle.std.specs.Prelude.{◌≡◌, ◌≤◌, ℕ, List, Option, Some, None, length, IfOk, IfSome, IsTrue, map, String, string_bytes};
 ghost use Rattle.std.specs.Option.{option_copied};
 ghost use Rattle.st_base.specs.Names.{is_name};
+ghost use Rattle.std.specs.List.{AllByRecursion as Each};
+ghost use Rattle.st_device.specs.Disk.{IsHonest, Passes};
 ghost use Rattle.st_stream.specs.Inputs.{Stay};
-ghost use Rattle.ingest_app.specs.Run.{client_of, Ends, EndsNamed, EndsClient, IsOfFile, input_text, script_text, not_yet_text};
+ghost use Rattle.st_engine.specs.Engine.{IsTied};
+ghost use Rattle.st_engine.specs.Store.{Stands};
+ghost use Rattle.st_model.specs.declared.state.ModelState.{ModelState};
+ghost use Rattle.ingest_app.specs.Client.{EndsAnswered};
+ghost use Rattle.ingest_app.specs.Op.{Fits};
+ghost use Rattle.ingest_app.specs.Run.{client_of, Ends, EndsNamed, EndsClient, EndsOpening, EndsScript, Faulted, IsBeforeDisk, IsOfFile, damaged_text, input_text, script_text, not_yet_text};
 ghost use Rattle.st_stream.specs.FileRead.{file_read, IsWithin};
 
-use crate::client::answer_script;
+use crate::client::{CAPACITY, answer_script};
 use crate::status::Status;
-use cmd_text::{ScriptFault, read_script};
+use cmd_text::{Script, ScriptFault, read_script};
 use st_base::{Bytes, CLIENT_FILE_BYTES, is_name};
+use st_device::Disk;
+use st_engine::{Engine, OpenFault, Options};
 use st_stream::{FileRead, Inputs, ReadFault, read_file};
 use std::alloc::{AllocError, Global};
 
@@ -60,74 +69,190 @@ fn script_text(alloc: Global, name: &str, line: u32) -> Result<Bytes, AllocError
     Ok(text)
 }
 
-// The outcome of a client file of these bytes.
-fn run_text(alloc: Global, name: &str, text: &[u8]) -> Result<Outcome, AllocError>
+// `damaged FILE OFFSET`
+fn damaged_text(alloc: Global, file: u64, at: u64) -> Result<Bytes, AllocError>
+    ensures { IfOk result (λ text. text ≡ damaged_text file at) }
+{
+    let mut text = Bytes::from_slice(alloc, b"damaged ")?;
+    text.extend_from_slice(file.to_string(alloc)?.as_bytes())?;
+    text.push(b' ')?;
+    text.extend_from_slice(at.to_string(alloc)?.as_bytes())?;
+    text.push(b'\n')?;
+    Ok(text)
+}
+
+// The status and the text of a store that was answered, and the disk.
+fn run_engine<D: Disk>(
+    alloc: Global,
+    name: &str,
+    script: &Script,
+    mut engine: Engine<D>,
+) -> (Result<Outcome, AllocError>, D)
+    requires limits { Each (λ numbered. Fits numbered.command) script.now.commands }
+    requires tied { IsHonest (D.tells engine.disk) → IsTied engine.wal engine.store (D.tells engine.disk) }
+    requires running { engine.stopped ≡ None }
+    requires capacity { engine.store.capacity ≡ CAPACITY }
+    ensures ends { IfOk result.0 (λ outcome. (opening : ModelState) → Stands engine.store opening → opening.place ≡ 0 → EndsAnswered name.now script.now.commands opening (D.tells engine.disk) (D.tells result.1) outcome.status outcome.text) }
+    ensures fault { IfOk result.0 (λ outcome. outcome.status ≡ Status.DiskFault → Faulted (D.tells engine.disk) (D.tells result.1)) }
+    ensures passes { Passes (D.tells engine.disk) (D.tells result.1) }
+{
+    let answered = answer_script(alloc, name, script, &mut engine);
+    let status = if engine.stopped().is_some() {
+        Status::DiskFault
+    } else {
+        Status::Done
+    };
+    match answered {
+        Ok(text) => (Ok(Outcome { status, text }), engine.close()),
+        Err(_) => (Err(AllocError), engine.close()),
+    }
+}
+
+// What an opening that failed is answered.
+fn unopened(alloc: Global, fault: OpenFault) -> Result<Outcome, AllocError>
+    ensures { IfOk result (λ outcome. EndsOpening fault outcome.status outcome.text) }
+{
+    match fault {
+        OpenFault::Damaged { file, at } => Ok(Outcome {
+            status: Status::Damaged,
+            text: damaged_text(alloc, file, at)?,
+        }),
+        OpenFault::DiskFault => Ok(Outcome {
+            status: Status::DiskFault,
+            text: Bytes::from_slice(alloc, b"disk\n")?,
+        }),
+        OpenFault::OutOfMemory => Err(AllocError),
+    }
+}
+
+// The outcome of a client's commands over the store of the disk, and the disk.
+fn run_script<D: Disk>(
+    alloc: Global,
+    name: &str,
+    script: &Script,
+    disk: D,
+) -> (Result<Outcome, AllocError>, D)
+    requires { Each (λ numbered. Fits numbered.command) script.now.commands }
+    ensures ends { IfOk result.0 (λ outcome. EndsScript script.now.commands name.now (D.tells disk) (D.tells result.1) outcome.status outcome.text) }
+    ensures fault { IfOk result.0 (λ outcome. outcome.status ≡ Status.DiskFault → Faulted (D.tells disk) (D.tells result.1)) }
+    ensures passes { Passes (D.tells disk) (D.tells result.1) }
+{
+    let options = Options {
+        behind: false,
+        capacity: CAPACITY,
+    };
+    match Engine::open(alloc, disk, options) {
+        Ok(engine) => run_engine(alloc, name, script, engine),
+        Err((disk, fault)) => (unopened(alloc, fault), disk),
+    }
+}
+
+// The outcome of a client file of these bytes, and the disk.
+fn run_text<D: Disk>(
+    alloc: Global,
+    name: &str,
+    text: &[u8],
+    disk: D,
+) -> (Result<Outcome, AllocError>, D)
     requires { length text.now ≤ CLIENT_FILE_BYTES }
-    ensures status { IfOk result (λ outcome. IsOfFile outcome.status) }
-    ensures ends { IfOk result (λ outcome. EndsClient (Some text.now) name.now outcome.status outcome.text) }
+    ensures status { IfOk result.0 (λ outcome. IsOfFile outcome.status) }
+    ensures ends { IfOk result.0 (λ outcome. EndsClient (Some text.now) name.now (D.tells disk) (D.tells result.1) outcome.status outcome.text) }
+    ensures fault { IfOk result.0 (λ outcome. outcome.status ≡ Status.DiskFault → Faulted (D.tells disk) (D.tells result.1)) }
+    ensures same { IfOk result.0 (λ outcome. IsBeforeDisk outcome.status → result.1 ≡ disk) }
+    ensures passes { Passes (D.tells disk) (D.tells result.1) }
 {
     match read_script(alloc, text) {
-        Ok(script) => Ok(Outcome {
-            status: Status::Done,
-            text: answer_script(alloc, name, script)?,
-        }),
-        Err(ScriptFault::Line(line)) => Ok(Outcome {
-            status: Status::Script,
-            text: script_text(alloc, name, line)?,
-        }),
-        Err(ScriptFault::OutOfMemory) => Err(AllocError),
+        Ok(script) => run_script(alloc, name, &script, disk),
+        Err(ScriptFault::Line(line)) => (faulty(alloc, name, line), disk),
+        Err(ScriptFault::OutOfMemory) => (Err(AllocError), disk),
     }
 }
 
-// The outcome of a client file.
-fn run_file(alloc: Global, name: &str, read: FileRead) -> Result<Outcome, AllocError>
+// What a faulty client file is answered.
+fn faulty(alloc: Global, name: &str, line: u32) -> Result<Outcome, AllocError>
+    ensures { IfOk result (λ outcome. (outcome.status ≡ Status.Script) × (outcome.text ≡ script_text name.now line)) }
+{
+    Ok(Outcome {
+        status: Status::Script,
+        text: script_text(alloc, name, line)?,
+    })
+}
+
+// The outcome of a client file, and the disk.
+fn run_file<D: Disk>(
+    alloc: Global,
+    name: &str,
+    read: FileRead,
+    disk: D,
+) -> (Result<Outcome, AllocError>, D)
     requires { IsWithin CLIENT_FILE_BYTES read }
-    ensures status { IfOk result (λ outcome. IsOfFile outcome.status) }
-    ensures ends { IfOk result (λ outcome. (file : Option (List ℕ)) → read ≡ file_read CLIENT_FILE_BYTES file → EndsClient file name.now outcome.status outcome.text) }
+    ensures status { IfOk result.0 (λ outcome. IsOfFile outcome.status) }
+    ensures ends { IfOk result.0 (λ outcome. (file : Option (List ℕ)) → read ≡ file_read CLIENT_FILE_BYTES file → EndsClient file name.now (D.tells disk) (D.tells result.1) outcome.status outcome.text) }
+    ensures fault { IfOk result.0 (λ outcome. outcome.status ≡ Status.DiskFault → Faulted (D.tells disk) (D.tells result.1)) }
+    ensures same { IfOk result.0 (λ outcome. IsBeforeDisk outcome.status → result.1 ≡ disk) }
+    ensures passes { Passes (D.tells disk) (D.tells result.1) }
 {
     match read {
-        FileRead::Missing => Ok(Outcome {
-            status: Status::Script,
-            text: script_text(alloc, name, 0)?,
-        }),
-        FileRead::TooLong => Ok(Outcome {
-            status: Status::Script,
-            text: script_text(alloc, name, 0)?,
-        }),
-        FileRead::Whole(bytes) => run_text(alloc, name, bytes.as_slice()),
+        FileRead::Missing => (faulty(alloc, name, 0), disk),
+        FileRead::TooLong => (faulty(alloc, name, 0), disk),
+        FileRead::Whole(bytes) => run_text(alloc, name, bytes.as_slice(), disk),
     }
 }
 
-// The outcome of a client of this name.
-fn run_client<I: Inputs>(alloc: Global, name: &str, inputs: &mut I) -> Result<Outcome, AllocError>
+// What a client file that isn't read is answered.
+fn unread(alloc: Global, name: &str) -> Result<Outcome, AllocError>
+    ensures { IfOk result (λ outcome. (outcome.status ≡ Status.InputFault) × (outcome.text ≡ input_text name.now)) }
+{
+    Ok(Outcome {
+        status: Status::InputFault,
+        text: input_text(alloc, name)?,
+    })
+}
+
+// The outcome of a client of this name, and the disk.
+fn run_client<D: Disk, I: Inputs>(
+    alloc: Global,
+    name: &str,
+    disk: D,
+    inputs: &mut I,
+) -> (Result<Outcome, AllocError>, D)
     requires { IsTrue (is_name name.now) }
-    ensures ends { IfOk result (λ outcome. EndsNamed name.now (I.tells inputs.old) (I.tells inputs.new) outcome.status outcome.text) }
+    ensures ends { IfOk result.0 (λ outcome. EndsNamed name.now (I.tells inputs.old) (I.tells inputs.new) (D.tells disk) (D.tells result.1) outcome.status outcome.text) }
+    ensures same { IfOk result.0 (λ outcome. IsBeforeDisk outcome.status → result.1 ≡ disk) }
+    ensures passes { Passes (D.tells disk) (D.tells result.1) }
     ensures stay { Stay (I.tells inputs.old) (I.tells inputs.new) }
 {
     match read_file(alloc, inputs, name, CLIENT_FILE_BYTES) {
-        Ok(read) => run_file(alloc, name, read),
-        Err(ReadFault::Failed) => Ok(Outcome {
-            status: Status::InputFault,
-            text: input_text(alloc, name)?,
-        }),
-        Err(ReadFault::OutOfMemory) => Err(AllocError),
+        Ok(read) => run_file(alloc, name, read, disk),
+        Err(ReadFault::Failed) => (unread(alloc, name), disk),
+        Err(ReadFault::OutOfMemory) => (Err(AllocError), disk),
     }
 }
 
-/// What the words ask for.
-pub fn outcome_of<I: Inputs>(
+// What words that are no form are answered.
+fn not_yet(alloc: Global) -> Result<Outcome, AllocError>
+    ensures { IfOk result (λ outcome. (outcome.status ≡ Status.NotYet) × (outcome.text ≡ not_yet_text)) }
+{
+    Ok(Outcome {
+        status: Status::NotYet,
+        text: Bytes::from_slice(alloc, b"notyet\n")?,
+    })
+}
+
+/// What the words ask for, over the disk, which is handed back.
+pub fn outcome_of<D: Disk, I: Inputs>(
     alloc: Global,
     words: &[String],
+    disk: D,
     inputs: &mut I,
-) -> Result<Outcome, AllocError>
-    ensures ends { IfOk result (λ outcome. Ends (map string_bytes words.now) (I.tells inputs.old) (I.tells inputs.new) outcome.status outcome.text) }
+) -> (Result<Outcome, AllocError>, D)
+    ensures ends { IfOk result.0 (λ outcome. Ends (map string_bytes words.now) (I.tells inputs.old) (I.tells inputs.new) (D.tells disk) (D.tells result.1) outcome.status outcome.text) }
+    ensures same { IfOk result.0 (λ outcome. IsBeforeDisk outcome.status → result.1 ≡ disk) }
+    ensures passes { Passes (D.tells disk) (D.tells result.1) }
     ensures stay { Stay (I.tells inputs.old) (I.tells inputs.new) }
 {
     match client_of(words) {
-        Some(name) => run_client(alloc, name, inputs),
-        None => Ok(Outcome {
-            status: Status::NotYet,
-            text: Bytes::from_slice(alloc, b"notyet\n")?,
-        }),
+        Some(name) => run_client(alloc, name, disk, inputs),
+        None => (not_yet(alloc), disk),
     }
 }

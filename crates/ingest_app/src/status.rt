@@ -10,10 +10,14 @@ pub enum Status {
     Memory,
     /// The input files have failed: `input NAME` is written.
     InputFault,
+    /// The disk has failed: at the opening `disk` is written, else the transcript.
+    DiskFault,
     /// The sink has failed: a part of the text is written, from its beginning on.
     SinkFault,
     /// A client file isn't there, is too long, or has a faulty line: `script NAME LINE` is written.
     Script,
+    /// The disk's store is damaged: `damaged FILE OFFSET` is written.
+    Damaged,
     /// The words are no form that is built so far: `notyet` is written.
     NotYet,
 }
@@ -27,8 +31,10 @@ impl Status {
             Status::Done => 0,
             Status::Memory => 3,
             Status::InputFault => 4,
+            Status::DiskFault => 5,
             Status::SinkFault => 6,
             Status::Script => 7,
+            Status::Damaged => 8,
             Status::NotYet => 9,
         }
     }

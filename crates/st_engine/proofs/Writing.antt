@@ -1,9 +1,8 @@
 -- A write, on the store and on the disk, over plain variables.
-use Rattle.std.proofs.Common.{◌≡◌, ◌⊎◌, inl, inr, ⊎_elim, ℕ, ◌+◌, ◌<◌, ◌≤◌, false, List, [], ◌∷◌, ◌++◌, map, length, Option, Some, None, Ok, slice_get, refl, sym, ◌∙◌, ap, subst, arith, lit<, true≢false}
+use Rattle.std.proofs.Common.{◌≡◌, ◌⊎◌, inl, inr, ⊎_elim, ℕ, ◌+◌, ◌<◌, false, List, [], ◌∷◌, ◌++◌, map, length, Some, None, Ok, slice_get, refl, sym, ◌∙◌, ap, subst, lit<, true≢false}
 use Rattle.std.specs.Prelude.{Bool, Result, Err, IfErr, IsErrAnd, OnErr, OnOk, option_map}
 use Rattle.std.specs.Result.{result_ok}
 use Rattle.std.specs.List.{AllByRecursion as Each}
-use Rattle.std.proofs.lemmas.List.{length-map}
 use Rattle.st_base.specs.Bytes.{default_family}
 use Rattle.st_base.specs.Entries.{add_charge}
 use Rattle.st_base.specs.Map.{value_at}
@@ -20,9 +19,8 @@ use Rattle.st_model.specs.Contents.{contents}
 use Rattle.st_model.specs.Legal.{is_stop}
 use Rattle.st_recover.specs.Contents.{contents_in, contents_of, written_marks}
 use Rattle.st_recover.specs.Opens.{first_fault, last_number, opens}
-use Rattle.st_recover.specs.Store.{IsStore}
 use Rattle.st_recover.proofs.Store.{append_leaves, append_store, last_append, sound_append, store_opens}
-use Rattle.st_wal.specs.Batch.{Batch as LoggedBatch, Operation, batch_of}
+use Rattle.st_wal.specs.Batch.{Operation, batch_of}
 use Rattle.st_wal.specs.Logged.{IsWithOrWithout, logged, logged_found, logged_record, read_as_log}
 use Rattle.st_wal.specs.Wal.{IsReady, operations}
 use Rattle.st_wal.specs.declared.logged.Logged.{Logged}

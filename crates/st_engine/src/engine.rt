@@ -1,10 +1,11 @@
 // The engine.
-ghost use Rattle.std.specs.Prelude.{◌≡◌, ◌⊎◌, ◌+◌, ◌≤◌, ◌<◌, ◌↔◌, ◌++◌, ◌∷◌, [], ℕ, List, IfErr, IfOk, IsErrOf, IsSome, OnErr, OnOk, None, Some, length, map, is_ok};
+ghost use Rattle.std.specs.Prelude.{◌≡◌, ◌⊎◌, ◌+◌, ◌≤◌, ◌<◌, ◌↔◌, ◌++◌, ◌∷◌, [], ℕ, List, IfErr, IfOk, IsErrOf, IsSome, OnErr, OnOk, None, Some, false, length, map, is_ok};
 ghost use Rattle.std.specs.List.{AllByRecursion as Each};
 ghost use Rattle.st_base.specs.Count.{Rose};
 ghost use Rattle.st_base.specs.Entries.{add_charge};
 ghost use Rattle.st_device.specs.Disk.{Image, IsHonest, Leaves, OnlyFile, Passes};
 ghost use Rattle.st_model.specs.declared.state.ModelState.{ModelState};
+ghost use Rattle.st_model.specs.Legal.{is_stop};
 ghost use Rattle.st_model.specs.Answer.{found, get_answer, unknown_families, write_refusals};
 ghost use Rattle.st_model.specs.Apply.{write_charge};
 ghost use Rattle.st_recover.specs.Opens.{IsDamageOf, opens};
@@ -17,7 +18,7 @@ use crate::ChangeFault;
 use crate::store::{Prepared, Store};
 use st_base::{Family, Key, Value};
 use st_device::Disk;
-use st_model::{Batch, Refusal};
+use st_model::{Batch, Refusal, Reply};
 use st_recover::{OpenFault, recover};
 use st_wal::{LogRecord, Operation, Wal};
 use std::alloc::Global;
@@ -118,6 +119,7 @@ impl<D: Disk> Engine<D> {
     pub fn read_now(&self, family: &Family, key: &Key) -> Result<Option<Value>, ChangeFault>
         ensures ok { IfOk result (λ value. (state : ModelState) → Stands self.now.store state → get_answer state state.last family.now key.now ≡ found value) }
         ensures refused { IfErr result (λ refusal. (state : ModelState) → Stands self.now.store state → IsFirst (unknown_families state (family.now ∷ [])) refusal) }
+        ensures no_stop { IfErr result (λ refusal. is_stop (Reply.Refused refusal) ≡ false) }
     {
         self.store.read(family, key)
     }
@@ -125,7 +127,7 @@ impl<D: Disk> Engine<D> {
     // Logs the operations of a write, whose keys have places, and takes them in.
     fn append(
         &mut self,
-        record: &LogRecord,
+        encoded: &LogRecord,
         ops: Vec<Operation>,
         charge: u64,
     ) -> Result<Wrote, ChangeFault>
@@ -134,10 +136,10 @@ impl<D: Disk> Engine<D> {
         requires last { self.old.store.last + length ops.items ≤ 72057594037927935 }
         requires place { self.old.store.place < 72057594037927935 }
         ensures log { IsHonest (D.tells self.old.disk) → OnlyFile self.old.wal.log.file
-            (λ this. IsWithOrWithout (operations self.old.wal (D.tells self.old.disk)) (logged_record self.old.wal.log.at record.now) (read_as_log this))
+            (λ this. IsWithOrWithout (operations self.old.wal (D.tells self.old.disk)) (logged_record self.old.wal.log.at encoded.now) (read_as_log this))
             (D.tells self.old.disk) (D.tells self.new.disk) }
         ensures ready { IsHonest (D.tells self.old.disk) → OnOk result (IsReady self.new.wal (D.tells self.new.disk)
-            × (operations self.new.wal (D.tells self.new.disk) ≡ operations self.old.wal (D.tells self.old.disk) ++ logged_record self.old.wal.log.at record.now)) }
+            × (operations self.new.wal (D.tells self.new.disk) ≡ operations self.old.wal (D.tells self.old.disk) ++ logged_record self.old.wal.log.at encoded.now)) }
         ensures file { self.new.wal.log.file ≡ self.old.wal.log.file }
         ensures marks { OnOk result ((key : List ℕ) → newest_at self.new.store.newest key ≡ marks_after_all (newest_at self.old.store.newest) ops.items key) }
         ensures numbers { OnOk result (IsAdvanced self.old.store self.new.store (length ops.items) charge) }
@@ -149,7 +151,7 @@ impl<D: Disk> Engine<D> {
         ensures passes { Passes (D.tells self.old.disk) (D.tells self.new.disk) }
         ensures cause { OnErr result (Rose (D.tells self.old.disk).faults (D.tells self.new.disk).faults) }
     {
-        match self.wal.append(&mut self.disk, record) {
+        match self.wal.append(&mut self.disk, encoded) {
             Ok(()) => Ok(self.store.accept(ops, charge)),
             Err(_) => {
                 self.stopped = Some(self.disk.faults());
@@ -193,10 +195,10 @@ impl<D: Disk> Engine<D> {
         }
         let prepared = self.store.prepare(self.alloc, batch.ops.as_slice())?;
         let Prepared {
-            record,
+            encoded,
             ops,
             charge,
         } = prepared;
-        self.append(&record, ops, charge)
+        self.append(&encoded, ops, charge)
     }
 }

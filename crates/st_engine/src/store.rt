@@ -42,7 +42,8 @@ pub struct Store {
 /// A write with all that it needs of memory.
 #[derive(Drop)]
 pub struct Prepared {
-    pub record: LogRecord,
+    /// The record of its operations.
+    pub encoded: LogRecord,
     pub ops: Vec<Operation>,
     /// The store's charge with that of the write.
     pub charge: u64,
@@ -163,7 +164,7 @@ impl Store {
     pub fn prepare(&mut self, alloc: Global, ops: &[Op]) -> Result<Prepared, ChangeFault>
         requires { IsWrite ops.now }
         ensures same { IsSameStore self.old self.new }
-        ensures record { IfOk result (λ prepared. batch_of prepared.record ≡ Some (record { first = self.old.last + 1; operations = map logged_op ops.now })) }
+        ensures encoded { IfOk result (λ prepared. batch_of prepared.encoded ≡ Some (record { first = self.old.last + 1; operations = map logged_op ops.now })) }
         ensures ops { IfOk result (λ prepared. prepared.ops.items ≡ map logged_op ops.now) }
         ensures room { IfOk result (λ prepared. Each (λ operation. HasRoom self.new.newest operation.1) prepared.ops.items) }
         ensures charge { IfOk result (λ prepared. prepared.charge ≡ add_charge self.old.charge (write_charge ops.now)) }
@@ -178,9 +179,9 @@ impl Store {
         }
         let logged = logged_ops(alloc, ops)?;
         self.make_room(ops)?;
-        let record = LogRecord::new(alloc, self.last + 1, &logged)?;
+        let encoded = LogRecord::new(alloc, self.last + 1, &logged)?;
         Ok(Prepared {
-            record,
+            encoded,
             ops: logged,
             charge: charge_with(self.charge, ops),
         })

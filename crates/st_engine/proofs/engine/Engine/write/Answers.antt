@@ -1,7 +1,5 @@
 use Rattle.std.proofs.Common.{◌≡◌, ◌⊎◌, ◌∙◌, ◌+◌, ◌++◌, ◌∷◌, ℕ, List, Option, Some, None, length, map, slice_get, inl, ap, sym, subst, refl}
-use Rattle.std.specs.Prelude.{OnErr, OnOk}
 use Rattle.std.proofs.lemmas.List.{length-map}
-use Rattle.st_device.specs.Disk.{Image, IsHonest}
 use Rattle.st_model.specs.declared.change.Op.{Op}
 use Rattle.st_model.specs.declared.refusal.Refusal.{Refusal}
 use Rattle.st_model.specs.declared.refusal.Refusal.TheVariants.{DiskFault}
@@ -9,10 +7,9 @@ use Rattle.st_model.specs.declared.state.ModelState.{ModelState}
 use Rattle.st_model.specs.Answer.{write_refusals}
 use Rattle.st_model.specs.Apply.{write_charge}
 use Rattle.st_base.specs.Entries.{add_charge}
-use Rattle.st_wal.specs.Batch.{Batch, Operation, batch_of}
+use Rattle.st_wal.specs.Batch.{Batch, batch_of}
 use Rattle.st_wal.specs.Logged.{logged_record}
 use Rattle.st_wal.specs.Wal.{IsReady, operations}
-use Rattle.st_engine.specs.Engine.{IsTied, OpensTo, written}
 use Rattle.st_engine.specs.Newest.{newest_at}
 use Rattle.st_engine.specs.Op.{logged_op, marks_after_all}
 use Rattle.st_engine.specs.Store.{IsAdvanced, IsFirst, Stands}
@@ -90,9 +87,9 @@ returns-clause-crash g c = λ honest running state h.
     let store = c.args.self.now.store in
     let batch = c.args.batch.now in
     let made = c.in_ok-prepared.ensures in
-    let payload = c.in_ok-prepared.prepared.«record» in
+    let payload = c.in_ok-prepared.prepared.encoded in
     let logged : List Op → Option Batch = λ l. Some (record { first = store.last + 1; operations = map logged_op l }) in
-    let encoded : batch_of payload ≡ logged batch.ops = made.«record» ∙ ap logged c.as_slice.ensures in
+    let encoded : batch_of payload ≡ logged batch.ops = made.encoded ∙ ap logged c.as_slice.ensures in
     let unrefused = subst (λ (l : List Op). slice_get (write_refusals state store.capacity l) 0 ≡ None) c.as_slice.ensures (made.unrefused state h) in
     write_leaves c.args.self.now.wal store batch payload (c.requires.tied honest running) encoded (c.append.ensures.log honest) state h unrefused
 
@@ -103,10 +100,10 @@ returns-clause-after g c = λ honest.
     let mid = c.prepare.new.self in
     let new = c.append.new.self.store in
     let made = c.in_ok-prepared.ensures in
-    let payload = c.in_ok-prepared.prepared.«record» in
+    let payload = c.in_ok-prepared.prepared.encoded in
     let tied = c.requires.tied honest (not_stopped c.args.self.now.stopped (sym c.is_some.ensures ∙ c.if-is_some.false)) in
     let logged : List Op → Option Batch = λ l. Some (record { first = store.last + 1; operations = map logged_op l }) in
-    let encoded : batch_of payload ≡ logged batch.ops = made.«record» ∙ ap logged c.as_slice.ensures in
+    let encoded : batch_of payload ≡ logged batch.ops = made.encoded ∙ ap logged c.as_slice.ensures in
     let ops : c.in_ok-prepared.prepared.ops.items ≡ map logged_op batch.ops = made.ops ∙ ap (map logged_op) c.as_slice.ensures in
     let count : length c.in_ok-prepared.prepared.ops.items ≡ length batch.ops = ap length ops ∙ length-map batch.ops logged_op in
     let unrefused : (state : ModelState) → Stands store state → slice_get (write_refusals state store.capacity batch.ops) 0 ≡ None =
@@ -127,10 +124,10 @@ returns-clause-tied g c = λ honest running.
     let mid = c.prepare.new.self in
     let new = c.append.new.self.store in
     let made = c.in_ok-prepared.ensures in
-    let payload = c.in_ok-prepared.prepared.«record» in
+    let payload = c.in_ok-prepared.prepared.encoded in
     let tied = c.requires.tied honest (not_stopped c.args.self.now.stopped (sym c.is_some.ensures ∙ c.if-is_some.false)) in
     let logged : List Op → Option Batch = λ l. Some (record { first = store.last + 1; operations = map logged_op l }) in
-    let encoded : batch_of payload ≡ logged batch.ops = made.«record» ∙ ap logged c.as_slice.ensures in
+    let encoded : batch_of payload ≡ logged batch.ops = made.encoded ∙ ap logged c.as_slice.ensures in
     let ops : c.in_ok-prepared.prepared.ops.items ≡ map logged_op batch.ops = made.ops ∙ ap (map logged_op) c.as_slice.ensures in
     let count : length c.in_ok-prepared.prepared.ops.items ≡ length batch.ops = ap length ops ∙ length-map batch.ops logged_op in
     either_answer c.append.result
