@@ -1,6 +1,6 @@
 -- What the engine answers is the model's reply, over plain variables.
 use Rattle.std.proofs.Common.{◌≡◌, ◌⊎◌, inl, inr, ⊎_elim, ℕ, ◌+◌, ◌≤◌, Bool, true, false, cond, nat_lt, nat_le, List, [], ◌∷◌, ◌++◌, map, length, Option, Some, None, slice_get, refl, sym, ◌∙◌, ap, subst, arith, true≢false, IsFalse, if◌then◌else◌}
-use Rattle.std.specs.Prelude.{IsSome, is_some}
+use Rattle.std.specs.Prelude.{IsSome, Result, Ok, Err, IfOk}
 use Rattle.std.specs.Option.{option_and_then}
 use Rattle.st_base.specs.Entries.{add_charge}
 use Rattle.st_device.specs.Disk.{Image, Told, IsHonest, Clock, Leaves}
@@ -183,3 +183,25 @@ get_steps store was before state family key answer h place is crash whole =
       crash = λ honest running image left. inl (crash honest running image left);
       whole = λ honest running image now. subst (λ (s : ModelState). OpensTo s image) (sym stays) (whole honest running image now);
     }
+
+pub if_ok_map : {T E : Type 0} (P Q : T → Type 0) (r : Result T E) → ((x : T) → P x → Q x) → IfOk r P → IfOk r Q
+if_ok_map P Q (Ok x) f p = f x p
+if_ok_map P Q (Err e) f p = tt
+
+-- a refusal is that of a disk fault, or not
+pub fault_or : (refusal : Refusal) → (refusal ≡ DiskFault) ⊎ (refusal ≡ DiskFault → ⊥)
+fault_or DiskFault = inl refl
+fault_or Stopped = inr (λ e. cc e)
+fault_or (UnknownFamily name) = inr (λ e. cc e)
+fault_or NumbersSpent = inr (λ e. cc e)
+fault_or StoreFull = inr (λ e. cc e)
+fault_or OutOfMemory = inr (λ e. cc e)
+
+-- one that isn't, of a store that isn't stopped, is no stop
+pub no_stop_of : (refusal : Refusal) → (refusal ≡ DiskFault → ⊥) → (refusal ≡ Stopped → ⊥) → is_stop (Refused refusal) ≡ false
+no_stop_of DiskFault fault stopped = absurd (fault refl)
+no_stop_of Stopped fault stopped = absurd (stopped refl)
+no_stop_of (UnknownFamily name) fault stopped = refl
+no_stop_of NumbersSpent fault stopped = refl
+no_stop_of StoreFull fault stopped = refl
+no_stop_of OutOfMemory fault stopped = refl

@@ -1,5 +1,5 @@
 //! The commands, answered by the engine one by one.
-ghost use Rattle.std.specs.Prelude.{◌≡◌, ◌⊎◌, IfOk, None};
+ghost use Rattle.std.specs.Prelude.{◌≡◌, ◌⊎◌, IfOk, OnOk, None};
 ghost use Rattle.st_base.specs.Count.{Rose};
 ghost use Rattle.st_device.specs.Disk.{IsHonest, Passes};
 ghost use Rattle.st_engine.specs.Engine.{IsTied};
@@ -23,6 +23,17 @@ pub struct Answer {
     pub reply: Reply,
 }
 
+// The refusal, which a transcript shows. Want of memory isn't one.
+fn shown(refusal: Refusal) -> Result<Refusal, AllocError>
+    ensures same { IfOk result (λ shown. shown ≡ refusal) }
+    ensures memory { OnOk result (refusal ≡ Refusal.OutOfMemory → ⊥) }
+{
+    match refusal {
+        Refusal::OutOfMemory => Err(AllocError),
+        other => Ok(other),
+    }
+}
+
 // Answers a write.
 fn answer_write<D: Disk>(engine: &mut Engine<D>, batch: &Batch) -> Result<Answer, AllocError>
     requires limits { IsWrite batch.now.ops }
@@ -39,10 +50,9 @@ fn answer_write<D: Disk>(engine: &mut Engine<D>, batch: &Batch) -> Result<Answer
             place: wrote.place,
             reply: Reply::Written(wrote.last),
         }),
-        Err(Refusal::OutOfMemory) => Err(AllocError),
         Err(refusal) => Ok(Answer {
             place: engine.place(),
-            reply: Reply::Refused(refusal),
+            reply: Reply::Refused(shown(refusal)?),
         }),
     }
 }
@@ -65,10 +75,9 @@ fn answer_get<D: Disk>(
             place,
             reply: Reply::Nothing,
         }),
-        Err(Refusal::OutOfMemory) => Err(AllocError),
         Err(refusal) => Ok(Answer {
             place,
-            reply: Reply::Refused(refusal),
+            reply: Reply::Refused(shown(refusal)?),
         }),
     }
 }
