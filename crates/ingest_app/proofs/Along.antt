@@ -59,7 +59,7 @@ no_fault call [] quiet among is = among
 no_fault call (x ∷ xs) quiet (inl here) is = true≢false (sym (ap is_stop (ap (λ (d : Call). d.reply) here ∙ is)) ∙ quiet.0)
 no_fault call (x ∷ xs) quiet (inr there) is = no_fault call xs quiet.1 there is
 
-none_of : {X : Type 0} (o : Option X) → is_some o ≡ false → o ≡ None
+pub none_of : {X : Type 0} (o : Option X) → is_some o ≡ false → o ≡ None
 none_of None e = refl
 none_of (Some x) e = absurd (true≢false e)
 

@@ -1,4 +1,6 @@
 pub mod Along
 pub mod Answering
+pub mod Ends
 pub mod Fits
+pub mod Opening
 pub mod Printed
