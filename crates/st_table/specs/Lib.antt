@@ -7,3 +7,4 @@ pub mod Properties
 pub mod Steps
 pub mod Stored
 pub mod Table
+pub mod Written

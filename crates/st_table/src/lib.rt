@@ -16,6 +16,7 @@ mod entries;
 mod data_blocks;
 mod find;
 mod table;
+mod stored_bytes;
 
 pub use fault::OpenTableFault;
 pub use kind::TableKind;
