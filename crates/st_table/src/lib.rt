@@ -17,6 +17,7 @@ mod data_blocks;
 mod find;
 mod table;
 mod stored_bytes;
+mod ending;
 
 pub use fault::OpenTableFault;
 pub use kind::TableKind;
