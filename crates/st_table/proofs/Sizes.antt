@@ -1,5 +1,5 @@
 -- How long what is written is.
-use Rattle.std.proofs.Common.{◌≡◌, ℕ, zero, suc, ◌+◌, ◌-◌, ◌*◌, ◌/◌, ◌%◌, ◌<◌, ◌≤◌, Bool, true, false, cond, eqb, leb, ltb, List, [], ◌∷◌, ◌++◌, length, refl, sym, ap, ◌∙◌, arith}
+use Rattle.std.proofs.Common.{◌≡◌, ℕ, zero, suc, ◌+◌, ◌-◌, ◌*◌, ◌/◌, ◌%◌, ◌^◌, ◌<◌, ◌≤◌, Bool, true, false, cond, eqb, leb, ltb, List, [], ◌∷◌, ◌++◌, length, refl, sym, ap, ◌∙◌, arith}
 use Rattle.std.specs.Prelude.{replicate, max}
 use Rattle.std.proofs.lemmas.List.{length-append}
 use Rattle.std.proofs.lemmas.Bool.{ne_eqb}
@@ -9,7 +9,7 @@ use Rattle.st_code.specs.Fixed.{fixed32, fixed64}
 use Rattle.st_code.specs.Varint.{shortest, varint}
 use Rattle.st_block.proofs.Writers.{entry_length, tail_length}
 use Rattle.st_block.specs.Written.{Writing, added as added_to_block, entries_bytes, entry_bytes, finished as finished_block, or_zero, restarts_of, shared_of, with_tail, written_block}
-use Rattle.st_table.specs.Footer.{magic}
+use Rattle.st_table.specs.Footer.{greatest_size, magic}
 use Rattle.st_table.specs.Metaindex.{properties_name}
 use Rattle.st_table.specs.Written.{Pair, Writer, added, ending, ending_from, finished, finished_with, footer_bytes, handle_bytes, indexed_block, internal_key, metaindex_block, padded, properties_block, property_pairs, stored, table_bytes, value_under, with_closed, with_open}
 use Rattle.st_table.specs.declared.handle.Handle.{Handle}
@@ -109,7 +109,7 @@ table_length kind count blocks index =
     omega (arith, stored_length index, length-append blocks (stored index), length-append (blocks ++ stored index) rest)
 
 -- whether the block of an entry that is added stays open or is closed, the table is the same
-finished_either : (writer : Writer) (block : Writing) (t : Bool) → 0 < block.count
+pub finished_either : (writer : Writer) (block : Writing) (t : Bool) → 0 < block.count
     → finished (cond t (with_closed writer block) (with_open writer block)) ≡ finished_with writer.kind (writer.count + 1) writer.blocks block writer.index
 finished_either writer block true some = refl
 finished_either writer block false some =
@@ -132,3 +132,16 @@ added_short writing key value =
     one : (t : Bool) → length (cond t (length writing.entries ∷ []) []) ≤ 1
     one true = omega arith
     one false = omega arith
+
+-- the parts of a finished table are no longer than it
+pub parts_short : (kind : TableKind) (count : ℕ) (blocks : List ℕ) (block index : Writing)
+    → length blocks + length (finished_block block) + length (finished_block (indexed_block index (length blocks) block)) + 10 ≤ length (finished_with kind count blocks block index)
+parts_short kind count blocks block index =
+    omega (arith, table_length kind count (blocks ++ stored (finished_block block)) (finished_block (indexed_block index (length blocks) block)), length-append blocks (stored (finished_block block)), stored_length (finished_block block))
+
+pub whole_parts_short : (kind : TableKind) (count : ℕ) (blocks index : List ℕ) → length blocks + length index ≤ length (table_bytes kind count blocks index)
+whole_parts_short kind count blocks index = omega (arith, table_length kind count blocks index)
+
+pub limit_short : (kind : TableKind) → greatest_size kind < 2 ^ 32
+limit_short External = omega arith
+limit_short Own = omega arith

@@ -1,5 +1,5 @@
 -- How a table is written: data blocks, index, properties, metaindex, footer, with nothing between.
-use Rattle.std.specs.Prelude.{◌≡◌, ℕ, ◌+◌, ◌-◌, ◌*◌, nat_le, ◌==◌, List, [], ◌∷◌, ◌++◌, length, map, fold, replicate, codes, IsTrue, if◌then◌else◌}
+use Rattle.std.specs.Prelude.{◌≡◌, ℕ, ◌+◌, ◌-◌, ◌*◌, ◌^◌, ◌<◌, ◌≤◌, nat_le, ◌==◌, List, [], ◌∷◌, ◌++◌, length, map, fold, replicate, codes, IsTrue, if◌then◌else◌}
 use Rattle.std.specs.List.{flat_map}
 use Rattle.st_base.specs.declared.entry.Entry.{Entry}
 use Rattle.st_base.specs.declared.entry.Mark.{Mark}
@@ -8,7 +8,7 @@ use Rattle.st_code.specs.Crc.{crc32c, mask}
 use Rattle.st_code.specs.Fixed.{fixed32, fixed64}
 use Rattle.st_code.specs.Varint.{varint}
 use Rattle.st_block.specs.Written.{Writing, added as added_to_block, entries_bytes, finished as finished_block, last_key, written_block, Holds as BlockHolds}
-use Rattle.st_table.specs.Footer.{magic}
+use Rattle.st_table.specs.Footer.{greatest_size, magic}
 use Rattle.st_table.specs.Metaindex.{properties_name}
 use Rattle.st_table.specs.Properties.{bytewise, comparator_name, version_name}
 use Rattle.st_table.specs.declared.handle.Handle.{Handle}
@@ -186,3 +186,9 @@ pub record Holds (writer : Writer) (entries : List Entry) : Type 0 where
   pub block_interval : writer.block.interval ≡ 16
   pub index : BlockHolds writer.index (index_pairs 0 (cut_of (map pair_of entries)).closed)
   pub index_interval : writer.index.interval ≡ 1
+
+-- what a writer keeps: the finished table is within the limit of its kind, and counts fit 64 bits
+pub record IsWriter (writer : Writer) : Type 0 where
+  pub fits : length (finished writer) ≤ greatest_size writer.kind
+  pub blocks_short : length writer.blocks < 2 ^ 32
+  pub counted : writer.count ≤ length writer.blocks + length writer.block.entries

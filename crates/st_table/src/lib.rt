@@ -18,7 +18,9 @@ mod find;
 mod table;
 mod stored_bytes;
 mod ending;
+mod writer;
 
 pub use fault::OpenTableFault;
 pub use kind::TableKind;
 pub use table::Table;
+pub use writer::{AddFault, TableWriter};
