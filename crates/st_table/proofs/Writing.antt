@@ -1,18 +1,20 @@
 -- What a writer of a table keeps.
 use Rattle.std.proofs.Common.{◌≡◌, ℕ, zero, suc, ◌+◌, ◌-◌, ◌*◌, ◌^◌, ◌<◌, ◌≤◌, Bool, true, false, cond, eqb, leb, List, [], ◌∷◌, ◌++◌, length, take, refl, sym, ap, subst, ◌∙◌, arith}
 use Rattle.std.specs.List.{flat_map}
-use Rattle.std.proofs.lemmas.Bool.{ne_eqb, eq-eqb, le-leb}
+use Rattle.std.specs.Prelude.{IsTrue, ◌↔◌}
+use Rattle.std.proofs.lemmas.Bool.{ne_eqb, leb-true, leb-false, false≢true}
+use Rattle.st_base.specs.declared.entry.Entry.{Entry}
 use Rattle.std.proofs.lemmas.List.{length-append}
 use Rattle.std.proofs.Math.Seq.{take-append_seam}
 use Rattle.st_code.specs.Fixed.{fixed32}
 use Rattle.st_block.proofs.Writers.{entry_some, finished_long, tail_length}
 use Rattle.st_block.specs.Written.{Writing, added as added_to_block, entry_bytes, finished as finished_block, shared_of, Holds as BlockHolds}
 use Rattle.st_table.specs.Footer.{greatest_size}
-use Rattle.st_table.specs.Written.{IsWriter, Writer, ending, finished, finished_with, handle_bytes, indexed_block, no_entries, stored, table_bytes, with_closed, with_open}
+use Rattle.st_table.specs.Written.{IsWriter, Writer, added, ending, internal_key, value_under, finished, finished_with, handle_bytes, indexed_block, no_entries, stored, table_bytes, with_closed, with_open}
 use Rattle.st_table.specs.declared.handle.Handle.{Handle}
 use Rattle.st_table.specs.declared.kind.TableKind.{TableKind}
 use Rattle.st_table.specs.declared.kind.TableKind.TheVariants.{External, Own}
-use Rattle.st_table.proofs.Sizes.{ending_short, finished_either, parts_short, stored_length, table_length, limit_short}
+use Rattle.st_table.proofs.Sizes.{ending_short, finished_added, finished_either, parts_short, stored_length, table_length, limit_short}
 
 -- ---- how long the table is
 
@@ -107,3 +109,48 @@ closed_is w block out next index o n i =
     ap (λ (x : List ℕ). let v : Writer = record { kind = w.kind; count = w.count + 1; blocks = x; block = next; index = index } in v) o
     ∙ ap (λ (x : Writing). let v : Writer = record { kind = w.kind; count = w.count + 1; blocks = w.blocks ++ stored (finished_block block); block = x; index = index } in v) n
     ∙ ap (λ (x : Writing). let v : Writer = record { kind = w.kind; count = w.count + 1; blocks = w.blocks ++ stored (finished_block block); block = no_entries 16; index = x } in v) i
+
+-- what the test for room says of the table with the entry
+with_entry_is : (w : Writer) (e : Entry) (key value : List ℕ) → key ≡ internal_key e → value ≡ value_under e.mark
+    → length (finished_with w.kind (w.count + 1) w.blocks (added_to_block w.block key value) w.index) ≡ length (finished (added w e))
+with_entry_is w e key value k v =
+    ap (λ (x : List ℕ). length (finished_with w.kind (w.count + 1) w.blocks (added_to_block w.block x value) w.index)) k
+    ∙ ap (λ (x : List ℕ). length (finished_with w.kind (w.count + 1) w.blocks (added_to_block w.block (internal_key e) x) w.index)) v
+    ∙ ap length (sym (finished_added w e))
+
+pub too_large_of : (w : Writer) (e : Entry) (key value : List ℕ) → key ≡ internal_key e → value ≡ value_under e.mark
+    → leb (length (finished_with w.kind (w.count + 1) w.blocks (added_to_block w.block key value) w.index)) (greatest_size w.kind) ≡ false → greatest_size w.kind < length (finished (added w e))
+too_large_of w e key value k v f = omega (arith, with_entry_is w e key value k v, leb-false _ _ f)
+
+pub fits_of : (w : Writer) (e : Entry) (key value : List ℕ) → key ≡ internal_key e → value ≡ value_under e.mark
+    → leb (length (finished_with w.kind (w.count + 1) w.blocks (added_to_block w.block key value) w.index)) (greatest_size w.kind) ≡ true → length (finished (added w e)) ≤ greatest_size w.kind
+fits_of w e key value k v t = omega (arith, with_entry_is w e key value k v, leb-true _ _ t)
+
+-- ---- the finished table
+
+pub some_entries : (b : Bool) (count : ℕ) → b ≡ false → IsTrue b ↔ (count ≡ 0) → eqb count 0 ≡ false
+some_entries b count f h = ne_eqb count 0 (λ e. false≢true (sym f ∙ h.1 e))
+
+pub finished_some : (w : Writer) → eqb w.block.count 0 ≡ false → finished w ≡ finished_with w.kind w.count w.blocks w.block w.index
+finished_some w f = ap (λ (t : Bool). cond t (table_bytes w.kind w.count w.blocks (finished_block w.index)) (finished_with w.kind w.count w.blocks w.block w.index)) f
+
+pub whole_is : (w : Writer) (out index : List ℕ) → out ≡ w.blocks ++ stored (finished_block w.block) → index ≡ finished_block (indexed_block w.index (length w.blocks) w.block)
+    → table_bytes w.kind w.count out index ≡ finished_with w.kind w.count w.blocks w.block w.index
+whole_is w out index o i =
+    ap (λ (x : List ℕ). table_bytes w.kind w.count x index) o ∙ ap (λ (x : List ℕ). table_bytes w.kind w.count (w.blocks ++ stored (finished_block w.block)) x) i
+
+-- the data blocks and the index block from which a table is finished
+pub record Parts (w : Writer) (out index : List ℕ) : Type 0 where
+  pub blocks_are : out ≡ w.blocks ++ stored (finished_block w.block)
+  pub index_is : index ≡ finished_block (indexed_block w.index (length w.blocks) w.block)
+
+pub parts_of : (w : Writer) (blocks contents slice last handle index out slice2 : List ℕ) → blocks ≡ w.blocks → contents ≡ finished_block w.block → slice ≡ contents → out ≡ blocks ++ stored slice
+    → last ≡ w.block.last → handle ≡ handle_bytes (record { offset = length w.blocks; size = length (finished_block w.block) }) → index ≡ finished_block (added_to_block w.index last handle) → slice2 ≡ index
+    → Parts w out slice2
+parts_of w blocks contents slice last handle index out slice2 b f s o l h i t = record {
+  blocks_are = o ∙ ap (λ (x : List ℕ). x ++ stored slice) b ∙ ap (λ (x : List ℕ). w.blocks ++ stored x) (s ∙ f);
+  index_is = t ∙ i ∙ ap (λ (x : List ℕ). finished_block (added_to_block w.index x handle)) l ∙ ap (λ (x : List ℕ). finished_block (added_to_block w.index w.block.last x)) h;
+}
+
+pub parts_whole : (w : Writer) (out index : List ℕ) → Parts w out index → eqb w.block.count 0 ≡ false → table_bytes w.kind w.count out index ≡ finished w
+parts_whole w out index p f = whole_is w out index p.blocks_are p.index_is ∙ sym (finished_some w f)

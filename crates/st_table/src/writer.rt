@@ -240,6 +240,7 @@ impl TableWriter {
             self.index
                 .finish_with(alloc, self.block.last_key(), handle_bytes.as_slice())?;
         push_stored(&mut blocks, contents.as_slice())?;
-        whole_table(alloc, self.kind, self.count, blocks, index.as_slice())
+        let bytes = whole_table(alloc, self.kind, self.count, blocks, index.as_slice())?;
+        Ok(bytes)
     }
 }
