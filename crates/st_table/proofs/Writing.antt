@@ -59,7 +59,7 @@ new_keeps kind blocks block index b o i =
     } in
     subst (λ (x : List ℕ). IsWriter (record { kind = kind; count = 0; blocks = x; block = block; index = index })) (sym b)
     (subst (λ (x : Writing). IsWriter (record { kind = kind; count = 0; blocks = []; block = x; index = index })) (sym o)
-      (subst (λ (x : Writing). IsWriter (record { kind = kind; count = 0; blocks = []; block = no_entries 16; index = x })) (sym i) base))
+    (subst (λ (x : Writing). IsWriter (record { kind = kind; count = 0; blocks = []; block = no_entries 16; index = x })) (sym i) base))
 
 -- ---- an entry more
 

@@ -5,19 +5,21 @@
 //! the last data block, and reserves nothing by a count or a length that they state.
 #![tactic(auto)]
 
-mod kind;
+mod data_blocks;
+mod ending;
+mod entries;
 mod fault;
-mod handle;
+mod find;
 mod footer;
-mod stored;
+mod handle;
+mod kind;
 mod metaindex;
 mod properties;
-mod entries;
-mod data_blocks;
-mod find;
-mod table;
+mod stored;
 mod stored_bytes;
-mod ending;
+mod table;
+#[cfg(test)]
+mod tests;
 mod writer;
 
 pub use fault::OpenTableFault;

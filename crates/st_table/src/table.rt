@@ -20,11 +20,7 @@ use std::sync::Arc;
 
 // The entries of a table of this kind, or its first fault.
 #[tactic(auto, unfolding(crate::specs::Table::table_of))]
-fn table_of(
-    alloc: Global,
-    bytes: &Arc<Bytes>,
-    kind: TableKind,
-) -> Result<Entries, OpenTableFault>
+fn table_of(alloc: Global, bytes: &Arc<Bytes>, kind: TableKind) -> Result<Entries, OpenTableFault>
     ensures ok { IfOk result (λ entries. table_of kind bytes.now.value ≡ Ok entries) }
     ensures rows { IfOk result AreRows }
     ensures err { IfErr result (λ fault. Fails fault (table_of kind bytes.now.value)) }

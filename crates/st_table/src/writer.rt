@@ -139,7 +139,9 @@ impl TableWriter {
             size: size as u64,
         };
         let handle_bytes = handle_bytes(alloc, handle)?;
-        let index_size = self.index.finished_size_with(internal, handle_bytes.as_slice());
+        let index_size = self
+            .index
+            .finished_size_with(internal, handle_bytes.as_slice());
         let index_handle = Handle {
             offset: (self.blocks.len() + size + TRAILER_BYTES) as u64,
             size: index_size as u64,
@@ -148,17 +150,18 @@ impl TableWriter {
         if before + ENDING_BYTES <= limit {
             return Ok(true);
         }
-        let ending = ending(alloc, self.kind, self.count + 1, before as u64, index_handle)?;
+        let ending = ending(
+            alloc,
+            self.kind,
+            self.count + 1,
+            before as u64,
+            index_handle,
+        )?;
         Ok(before + ending.len() <= limit)
     }
 
     // Puts an entry at the end and closes its block.
-    fn close_with(
-        &mut self,
-        alloc: Global,
-        internal: &[u8],
-        value: &[u8],
-    ) -> Result<(), AllocError>
+    fn close_with(&mut self, alloc: Global, internal: &[u8], value: &[u8]) -> Result<(), AllocError>
         requires key { length internal.now ≤ 65543 }
         requires value { length value.now ≤ 1048576 }
         requires room { length (finished_with self.old.kind (self.old.count + 1) self.old.blocks (added_to_block self.old.block internal.now value.now) self.old.index) ≤ greatest_size self.old.kind }
@@ -236,9 +239,9 @@ impl TableWriter {
             size: contents.len() as u64,
         };
         let handle_bytes = handle_bytes(alloc, handle)?;
-        let index =
-            self.index
-                .finish_with(alloc, self.block.last_key(), handle_bytes.as_slice())?;
+        let index = self
+            .index
+            .finish_with(alloc, self.block.last_key(), handle_bytes.as_slice())?;
         push_stored(&mut blocks, contents.as_slice())?;
         let bytes = whole_table(alloc, self.kind, self.count, blocks, index.as_slice())?;
         Ok(bytes)

@@ -40,5 +40,5 @@ invariant_of-self-2 c =
     let is = handle_is i.blocks block c.as_slice-2.result.now c.in_ok-contents.contents c.len-before.result c.len.result c.len-before.ensures c.len.ensures c.in_ok-contents.ensures (c.as_slice-2.ensures ∙ c.in_ok-handle_bytes.ensures) in
     subst (λ (x : Writer). IsWriter x)
     (sym (closed_is w block c.push_stored.new.out c.in_ok-next.next c.add.new.self (c.in_ok-push_stored.ensures.ok ∙ ap (λ (x : List ℕ). i.blocks ++ stored x) (c.as_slice.ensures ∙ c.in_ok-contents.ensures)) (none_is c.in_ok-next.next 16 c.in_ok-next.ensures.holds c.in_ok-next.ensures.interval)
-      (c.in_default.ensures.ok ∙ ap (λ (x : List ℕ). added_to_block i.index c.args.internal.now x) is)))
+    (c.in_default.ensures.ok ∙ ap (λ (x : List ℕ). added_to_block i.index c.args.internal.now x) is)))
     (closed_keeps w block (omega arith) (grows i.block c.args.internal.now c.args.value.now) room c.self.invariant)

@@ -30,7 +30,7 @@ returns-then-before-limit c =
     c.len.ensures c.finished_size_with-size.ensures.size (c.as_slice.ensures ∙ c.in_ok-handle_bytes.ensures) c.finished_size_with-index_size.ensures.size refl in
     subst (λ (v : Writer). true ≡ nat_le (length (finished_with v.kind (v.count + 1) v.blocks (added_to_block v.block c.args.internal.now c.args.value.now) v.index)) (greatest_size v.kind)) c.self.view_is
     (sym (le-leb (length (finished_with i.kind (i.count + 1) i.blocks block i.index)) (greatest_size i.kind)
-        (omega (arith, total, ending_short i.kind (i.count + 1) (len + size + 5 + index_size + 5) (record { offset = len + size + 5; size = index_size }), c.len.ensures, c.len-3.ensures, c.greatest_size-limit.ensures, c.if-before-limit.true))))
+    (omega (arith, total, ending_short i.kind (i.count + 1) (len + size + 5 + index_size + 5) (record { offset = len + size + 5; size = index_size }), c.len.ensures, c.len-3.ensures, c.greatest_size-limit.ensures, c.if-before-limit.true))))
 
 pub returns : goal.returns
 returns c =
