@@ -2,6 +2,7 @@ pub mod DataBlocks
 pub mod Entries
 pub mod Footer
 pub mod Found
+pub mod IsTable
 pub mod Metaindex
 pub mod Properties
 pub mod Steps

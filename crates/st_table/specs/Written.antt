@@ -178,14 +178,18 @@ finished writer =
     if writer.block.count == 0 then table_bytes writer.kind writer.count writer.blocks (finished_block writer.index)
     else finished_with writer.kind writer.count writer.blocks writer.block writer.index
 
--- these entries were added
-pub record Holds (writer : Writer) (entries : List Entry) : Type 0 where
-  pub count : length entries ≡ writer.count
-  pub blocks : writer.blocks ≡ data_bytes (cut_of (map pair_of entries)).closed
-  pub block : BlockHolds writer.block (cut_of (map pair_of entries)).open_block
+-- so many entries were added, and are in these blocks
+pub record HoldsCut (writer : Writer) (entries : ℕ) (cut : Cut) : Type 0 where
+  pub count : writer.count ≡ entries
+  pub blocks : writer.blocks ≡ data_bytes cut.closed
+  pub block : BlockHolds writer.block cut.open_block
   pub block_interval : writer.block.interval ≡ 16
-  pub index : BlockHolds writer.index (index_pairs 0 (cut_of (map pair_of entries)).closed)
+  pub index : BlockHolds writer.index (index_pairs 0 cut.closed)
   pub index_interval : writer.index.interval ≡ 1
+
+-- these entries were added
+abbrev pub Holds : Writer → List Entry → Type 0
+Holds writer entries = HoldsCut writer (length entries) (cut_of (map pair_of entries))
 
 -- what a writer keeps: the finished table is within the limit of its kind, and counts fit 64 bits
 pub record IsWriter (writer : Writer) : Type 0 where

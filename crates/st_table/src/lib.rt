@@ -21,8 +21,10 @@ mod table;
 #[cfg(test)]
 mod tests;
 mod writer;
+mod laws;
 
 pub use fault::OpenTableFault;
 pub use kind::TableKind;
+pub use laws::table_writer_holds_what_is_added;
 pub use table::Table;
 pub use writer::{AddFault, TableWriter};

@@ -400,7 +400,7 @@ fn unseen_changes(place: usize) -> u32 {
     if (PADDING..LENGTH - 12).contains(&place) {
         return 9;
     }
-    if place + 1 == PADDING { 1 } else { 0 }
+    if place == PADDING - 1 { 1 } else { 0 }
 }
 
 #[test]

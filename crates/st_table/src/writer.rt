@@ -223,8 +223,8 @@ impl TableWriter {
         Ok(())
     }
 
-    /// The table of what was added. It is within the limit of its kind.
-    pub fn finish(&self, alloc: Global) -> Result<Bytes, AllocError>
+    // The table of what was added.
+    fn finished(&self, alloc: Global) -> Result<Bytes, AllocError>
         ensures value { IfOk result (λ bytes. bytes ≡ finished self.now) }
         ensures fits { IfOk result (λ bytes. length bytes ≤ greatest_size self.now.kind) }
     {
@@ -244,6 +244,15 @@ impl TableWriter {
             .finish_with(alloc, self.block.last_key(), handle_bytes.as_slice())?;
         push_stored(&mut blocks, contents.as_slice())?;
         let bytes = whole_table(alloc, self.kind, self.count, blocks, index.as_slice())?;
+        Ok(bytes)
+    }
+    /// The table of what was added. It is within the limit of its kind.
+    pub fn finish(&self, alloc: Global) -> Result<Bytes, AllocError>
+        ensures value { IfOk result (λ bytes. bytes ≡ finished self.now) }
+        ensures written { IfOk result (λ bytes. (entries : List Entry) → Holds self.now entries → bytes ≡ written_table self.now.kind entries) }
+        ensures fits { IfOk result (λ bytes. length bytes ≤ greatest_size self.now.kind) }
+    {
+        let bytes = self.finished(alloc)?;
         Ok(bytes)
     }
 }
