@@ -1,10 +1,11 @@
 -- A table is read exactly where its places are those of a table.
-use Rattle.std.proofs.Common.{◌≡◌, ◌≢◌, ℕ, zero, suc, ◌+◌, ◌-◌, ◌≤◌, Bool, true, false, cond, eqb, leb, ltb, ◌&&◌, ◌||◌, List, [], ◌∷◌, ◌++◌, length, Option, Some, None, Result, Ok, Err, refl, sym, ap, subst, ◌∙◌, append_assoc, arith}
+use Rattle.std.proofs.Common.{◌≡◌, ◌≢◌, ℕ, zero, suc, ◌+◌, ◌-◌, ◌≤◌, Bool, true, false, cond, eqb, leb, ltb, ◌&&◌, ◌||◌, List, [], ◌∷◌, ◌++◌, length, Option, Some, None, Result, Ok, Err, Ordering, Less, Equal, Greater, refl, sym, ap, subst, ◌∙◌, append_assoc, arith}
 use Rattle.std.specs.Prelude.{not, slice_get, map, IfSome}
 use Rattle.std.specs.List.{AllByRecursion, flat_map}
-use Rattle.std.specs.Ordering.{is_le, is_lt}
-use Rattle.std.proofs.lemmas.Bool.{and_parts, and_from, le-ltb, ne_eqb}
+use Rattle.std.specs.Ordering.{is_le, is_lt, nat_cmp, ordering_then}
+use Rattle.std.proofs.lemmas.Bool.{and_parts, and_from, le-ltb, ne_eqb, eqb-true, false≢true}
 use Rattle.std.proofs.lemmas.List.{append-nil, map-append}
+use Rattle.st_base.specs.Bytes.{below, bytes_cmp}
 use Rattle.st_base.specs.Order.{comes_before, in_order, rises_behind}
 use Rattle.st_base.specs.declared.entry.Entry.{Entry}
 use Rattle.st_base.specs.declared.faults.TableFault.{TableFault}
@@ -19,12 +20,15 @@ use Rattle.st_table.specs.Footer.{footer_of, lies, value_handle}
 use Rattle.st_table.specs.IsTable.{AreBlocks, AreDataBlocks, Blocks, IsDataBlock, IsEntry, IsTable, entries_under, joined}
 use Rattle.st_table.specs.Metaindex.{properties_handle, value_place}
 use Rattle.st_table.specs.Properties.{properties_fault}
-use Rattle.st_table.specs.Steps.{◌>>=◌, unless}
+use Rattle.st_table.specs.Steps.{◌>>=◌, Fails, unless}
 use Rattle.st_table.specs.Stored.{block_at}
-use Rattle.st_table.specs.Table.{table_of}
+use Rattle.st_table.specs.Table.{IsFirstFault, fault_of, first_fault, keys_rise, table_of}
+use Rattle.st_table.specs.declared.fault.OpenTableFault.{OpenTableFault}
+use Rattle.st_table.specs.declared.fault.OpenTableFault.TheVariants.{Bad, OutOfMemory}
 use Rattle.st_table.specs.declared.footer.Footer.{Footer}
 use Rattle.st_table.specs.declared.handle.Handle.{Handle}
 use Rattle.st_table.specs.declared.kind.TableKind.{TableKind}
+use Rattle.st_table.specs.declared.kind.TableKind.TheVariants.{External}
 use Rattle.st_table.proofs.Behind.{Passes, last_more, order_more, passes_of}
 use Rattle.st_table.proofs.Inverse.{bind_ok, block_at_ok, either_ok, footer_ok, is_ok_same, names_ok, ok_bind, ok_block_at, ok_footer, ok_names, ok_properties, ok_value_handle, properties_ok, stored_lies, true_not, unless_ok, value_handle_ok}
 
@@ -216,3 +220,49 @@ is_table bytes kind entries t =
           (ap (λ (o : Option TableFault). unless o (block_at Index bytes b.footer.index >>= data_of kind bytes b.footer.index.offset)) (ok_properties kind b.properties a.values)
             ∙ ok_bind (block_at Index bytes b.footer.index) (data_of kind bytes b.footer.index.offset) b.index entries (ok_block_at Index bytes b.footer.index b.index a.index)
             (data' ∙ ap (λ (l : List Entry). let r : Result (List Entry) TableFault = Ok l in r) (sym a.entries_are))))))
+
+-- ---- the first fault
+
+pub first_of : (bytes : List ℕ) (kind : TableKind) (fault : OpenTableFault) → Fails fault (table_of kind bytes) → IsFirstFault bytes kind fault
+first_of bytes kind (Bad fault) h = ap fault_of h
+first_of bytes kind OutOfMemory h = tt
+
+pub no_fault_is : (bytes : List ℕ) (kind : TableKind) → first_fault bytes kind ≡ None → (entries : List Entry) × IsTable bytes kind entries
+no_fault_is bytes kind e = inner (table_of kind bytes) refl e
+  where
+    inner : (r : Result (List Entry) TableFault) → table_of kind bytes ≡ r → fault_of r ≡ None → (entries : List Entry) × IsTable bytes kind entries
+    inner (Ok entries) s e = (entries, table_is bytes kind entries s)
+    inner (Err fault) s e = absurd cc
+
+pub is_no_fault : (bytes : List ℕ) (kind : TableKind) (entries : List Entry) → IsTable bytes kind entries → first_fault bytes kind ≡ None
+is_no_fault bytes kind entries t = ap fault_of (is_table bytes kind entries t)
+
+pub one_table : (bytes : List ℕ) (kind : TableKind) (one other : List Entry) → IsTable bytes kind one → IsTable bytes kind other → one ≡ other
+one_table bytes kind one other s t = is_ok_same one other (sym (is_table bytes kind one s) ∙ is_table bytes kind other t)
+
+-- ---- keys of an external table
+
+zero_number : (kind : TableKind) (cell : Cell) → IsEntry External cell → (entry_under cell.key cell.value).number ≡ 0
+zero_number kind cell is = eqb-true _ _ is.number_fits
+
+lower_key : (o : Ordering) (m n : ℕ) → m ≡ 0 → n ≡ 0 → is_lt (ordering_then o (nat_cmp n m)) ≡ true → is_lt o ≡ true
+lower_key Less m n p q h = refl
+lower_key Equal m n p q h = absurd (false≢true (sym (ap (λ (k : ℕ). is_lt (nat_cmp k m)) q ∙ ap (λ (k : ℕ). is_lt (nat_cmp 0 k)) p) ∙ h))
+lower_key Greater m n p q h = absurd cc
+
+keys_behind : (cell : Cell) (cells : List Cell) → IsEntry External cell → AllByRecursion (IsEntry External) cells → rises_behind comes_before (under cell) (entries_under cells) ≡ true
+    → rises_behind (λ (a : Entry) (b : Entry). below a.key b.key) (under cell) (entries_under cells) ≡ true
+keys_behind cell [] is are h = refl
+keys_behind cell (other ∷ cells) is are h =
+    let p = and_parts (comes_before (under cell) (under other)) (rises_behind comes_before (under other) (entries_under cells)) h in
+    and_from (below (under cell).key (under other).key) (rises_behind (λ (a : Entry) (b : Entry). below a.key b.key) (under other) (entries_under cells))
+    (lower_key (bytes_cmp (under cell).key (under other).key) (under cell).number (under other).number (zero_number External cell is) (zero_number External other are.0) p.0)
+    (keys_behind other cells are.0 are.1 p.1)
+
+keys_of : (cells : List Cell) → AllByRecursion (IsEntry External) cells → in_order (entries_under cells) ≡ true → keys_rise (entries_under cells) ≡ true
+keys_of [] are h = refl
+keys_of (cell ∷ cells) are h = keys_behind cell cells are.0 are.1 h
+
+pub external_keys_rise : (bytes : List ℕ) (entries : List Entry) → IsTable bytes External entries → keys_rise entries ≡ true
+external_keys_rise bytes entries t =
+    subst (λ (l : List Entry). keys_rise l ≡ true) (sym t.1.entries_are) (keys_of (joined t.0.data_blocks) t.1.fit (sym (ap in_order t.1.entries_are) ∙ t.1.ordered))
