@@ -111,10 +111,10 @@ read_is [] None = (refl, refl)
 read_is [] (Some value) = (refl, refl)
 read_is (name ∷ names) value = (refl, refl)
 
--- a reply that is no change and no stop leaves the state and prints its place
-pub stays : (state : ModelState) (capacity : ℕ) (call : Call) → is_change call.reply ≡ false → is_stop call.reply ≡ false → call.place ≡ state.place → IsReply state capacity call.asked call.reply
+-- a reply that is no change leaves the state and prints its place
+pub stays : (state : ModelState) (capacity : ℕ) (call : Call) → is_change call.reply ≡ false → call.place ≡ state.place → IsReply state capacity call.asked call.reply
     → IsStep state capacity call × (after state call ≡ state)
-stays state capacity call change stop place answered =
+stays state capacity call change place answered =
     let same_state : after state call ≡ state = ap (λ b. cond b (after_call state call) state) change in
     let one : ℕ = 1 in
     let nil : ℕ = 0 in
@@ -123,7 +123,6 @@ stays state capacity call change stop place answered =
         grows = ap (λ (s : ModelState). s.place) same_state ∙ grows;
         place = place ∙ sym (ap (λ (s : ModelState). s.place) same_state);
         answered = answered;
-        no_stop = stop;
       },
       same_state,
     )

@@ -1,5 +1,5 @@
 -- The store in memory, and the states of the model that it stands for.
-use Rattle.std.specs.Prelude.{ℕ, ◌≡◌, ◌≤◌, List, [], ◌∷◌, ◌++◌, Option}
+use Rattle.std.specs.Prelude.{ℕ, ◌≡◌, ◌≤◌, List, [], ◌∷◌, ◌++◌, IsFalse, Option}
 use Rattle.std.specs.List.{AllByRecursion as Each}
 use Rattle.std.specs.BTreeMap.{get}
 use Rattle.st_base.specs.Bytes.{bytes_cmp, default_family}
@@ -9,7 +9,7 @@ use Rattle.st_model.specs.declared.state.ModelFamily.{ModelFamily}
 use Rattle.st_model.specs.declared.state.ModelState.{ModelState}
 use Rattle.st_model.specs.Asked.{asked_of}
 use Rattle.st_model.specs.Line.{line_of}
-use Rattle.st_model.specs.Legal.{IsStep, after}
+use Rattle.st_model.specs.Legal.{IsStep, after, is_stop}
 use Rattle.st_model.specs.Read.{read}
 use Rattle.ingest_app.specs.Op.{refused_family, stranger_of}
 use Rattle.ingest_app.specs.declared.store.Answer.{Answer}
@@ -36,6 +36,7 @@ call_of command answer = record { asked = asked_of command; place = answer.place
 -- the answer is the model's at the state, and the store then stands for the state after it
 pub record Steps (store : Store) (state : ModelState) (capacity : ℕ) (command : Command) (answer : Answer) : Type 0 where
   pub step : IsStep state capacity (call_of command answer)
+  pub no_stop : IsFalse (is_stop answer.reply)
   -- a family that isn't there is refused, the first that the command names, and no other refusal names one
   pub unknown : refused_family answer.reply ≡ stranger_of command
   pub stands : Stands store (after state (call_of command answer))

@@ -6,7 +6,7 @@ use Rattle.std.proofs.lemmas.Bool.{cases_Bool, and_parts, eq-eqb, ne_eqb, eqb-tr
 use Rattle.st_base.specs.Order.{rises}
 use Rattle.st_base.specs.declared.faults.BlockFault.{BlockFault}
 use Rattle.st_base.specs.declared.faults.BlockFault.TheVariants.{Restarts}
-use Rattle.st_block.specs.Block.{Cell, Tail as Parts, are_restarts, block_of, counted, entries_before, entries_of, fitted, is_restart, none_fit, offsets_at, restarts_fit, tail_end, tail_of}
+use Rattle.st_block.specs.Block.{Cell, Tail as Parts, are_restarts, block_of, counted, entries_before, entries_of, fitted, is_restart, none_fit, offsets_at, restarts_fit, restarts_of, tail_end, tail_of, tail_restarts}
 use Rattle.st_block.specs.Entry.{IsLayout, IsTested, IsUnfit, MayStand, restarts_left}
 use Rattle.st_block.specs.declared.kind.BlockKind.{BlockKind}
 use Rattle.st_block.specs.declared.kind.BlockKind.TheVariants.{Data, Index, Plain}
@@ -19,7 +19,7 @@ use Rattle.st_block.proofs.Offsets.{offsets_more}
 
 -- ---- the tail
 
-length_offsets : (text : List ℕ) (at count : ℕ) → length (offsets_at text at count) ≡ count
+pub length_offsets : (text : List ℕ) (at count : ℕ) → length (offsets_at text at count) ≡ count
 length_offsets text at zero = refl
 length_offsets text at (suc count) = ap suc (length_offsets text (at + 4) count)
 
@@ -157,6 +157,7 @@ module _ (kind : BlockKind) (text : List ℕ) (tail : Tail) (found : Found) (cel
         first = subst (λ (k : ℕ). offsets_at text layout.end k ≡ 0 ∷ offsets_at text (layout.end + 4) (k - 1)) (sym r) (subst (λ (k : ℕ). offsets_at text k tail.count ≡ 0 ∷ offsets_at text (k + 4) (tail.count - 1)) (sym e) (first_is text tail.end tail.count (tail_rises text _ there)));
         restarts = λ some. subst (λ (k : ℕ). list_all (is_restart cells) (offsets_at text layout.end k) ≡ true) (sym r) (subst (λ (k : ℕ). list_all (is_restart cells) (offsets_at text k tail.count) ≡ true) (sym e) (all_there (met_all h (omega arith))));
         count = read.count ∙ sym n;
+        offsets = subst (λ (k : ℕ). offsets_at text layout.end k ≡ restarts_of text) (sym r) (subst (λ (k : ℕ). offsets_at text k tail.count ≡ restarts_of text) (sym e) (sym (ap tail_restarts there)));
         end = e ∙ sym (ap tail_end there);
         room = omega arith;
       }

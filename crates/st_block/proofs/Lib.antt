@@ -8,6 +8,7 @@ pub mod Layouts
 pub mod Meeting
 pub mod Offsets
 pub mod Places
+pub mod Counting
 pub mod Searching
 pub mod Tails
 pub mod Tested

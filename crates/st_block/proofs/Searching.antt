@@ -66,6 +66,22 @@ module _ (kind : BlockKind) (text : List ℕ) (layout : Layout) (lies : IsLayout
             ap (is_key_before key number) (sym (key_is f.before cell f.next f.there none)) ∙ yes');
       })
 
+  -- a restart whose entry doesn't come before the place
+  pub stays_behind : (middle at : ℕ) (internal : List ℕ) → middle < layout.restarts → at ≡ from_le_bytes w32 (drop (layout.end + 4 * middle) text)
+      → ((before : List ℕ) (cell : Cell) (next : ℕ) → cell_at (take layout.end text) before at ≡ Some (cell, next) → cell.shared ≡ 0 → internal ≡ cell.key) → is_key_before key number internal ≡ false
+      → (cell : Cell) (rest : List Cell) → cells_at (from_le_bytes w32 (drop (layout.end + 4 * middle) text)) (cells_in kind (take layout.end text)) ≡ cell ∷ rest → is_key_before key number cell.key ≡ false
+  stays_behind middle at internal lt e key_is no' cell rest first' =
+      let cells = cells_in kind (take layout.end text) in
+      let lie = entries_laid kind (take layout.end text) cells lies.area in
+      let there = all_at cells text layout.end layout.restarts middle (lies.restarts some) lt in
+      let first : cells_at at cells ≡ cell ∷ rest = subst (λ (k : ℕ). cells_at k cells ≡ cell ∷ rest) (sym e) first' in
+      let r = restart_at cells at (laid_rising (take layout.end text) [] 0 cells lie) (subst (λ (k : ℕ). is_restart cells k ≡ true) (sym e) there) in
+      let f = first_at (take layout.end text) [] 0 cells lie at cell rest first in
+      let both : r.0 ∷ r.1.0 ≡ cell ∷ rest = sym r.1.1 ∙ first in
+      let same : r.0 ≡ cell = cc in
+      let none : cell.shared ≡ 0 = ap (λ (c : Cell). c.shared) (sym same) ∙ r.1.2 in
+      ap (is_key_before key number) (sym (key_is f.before cell f.next f.there none)) ∙ no'
+
 -- ---- keys before a place
 
 less : (o : Ordering) → is_lt o ≡ true → o ≡ Less
@@ -192,6 +208,13 @@ module _ (kind : BlockKind) (text : List ℕ) (layout : Layout) (lies : IsLayout
           primes = subst (Primes scratch) (sym takes.first) (subst (λ (k : List ℕ). (cell.shared ≤ length k) × (take cell.shared k ≡ take cell.shared cell.key)) takes.key_is (takes.shared, refl));
         },
       )
+
+  pub stays : (at next : ℕ) (scratch value : List ℕ) (cell : Cell) → Takes block at scratch value next cell → is_key_before key number scratch ≡ false
+      → cells_from_place key number block.cells ≡ cells_from_place key number (cells_at at block.cells) → length (cells_at at block.cells) ≡ length (cells_from_place key number block.cells)
+  stays at next scratch value cell takes before so_far =
+      ap length (takes.first
+      ∙ sym (so_far ∙ ap (cells_from_place key number) takes.first
+      ∙ ap (λ (t : Bool). cond t (cells_from_place key number (cells_at next block.cells)) (cell ∷ cells_at next block.cells)) (ap (is_key_before key number) takes.key_is ∙ before)))
 
   pub ends : (at : ℕ) (old : List ℕ) → Stands block at old → cells_at at block.cells ≡ [] → cells_from_place key number block.cells ≡ cells_from_place key number (cells_at at block.cells) → at ≡ lower_place block key number
   ends at old stands none so_far =

@@ -132,6 +132,14 @@ tail_end (Some tail) = tail.end
 abbrev pub end_of : List ℕ → ℕ
 end_of bytes = tail_end (tail_of bytes)
 
+-- the restarts behind them
+abbrev pub tail_restarts : Option Tail → List ℕ
+tail_restarts None = []
+tail_restarts (Some tail) = tail.restarts
+
+abbrev pub restarts_of : List ℕ → List ℕ
+restarts_of bytes = tail_restarts (tail_of bytes)
+
 -- whether a restart is an entry that shares nothing
 abbrev pub is_restart : List Cell → ℕ → Bool
 is_restart cells offset = list_any (λ cell. (cell.at == offset) && (cell.shared == 0)) cells

@@ -2,7 +2,7 @@
 use Rattle.std.specs.Prelude.{ℕ, ◌+◌, ◌-◌, ◌*◌, ◌^◌, ◌<◌, ◌≤◌, ◌==◌, ◌&&◌, ◌≡◌, List, [], ◌∷◌, length, slice_range, if◌then◌else◌}
 use Rattle.std.specs.Prelude.{Result, Ok, Err, take, true, IsTrue, ◌++◌, ◌≢◌, ◌⊎◌}
 use Rattle.std.specs.List.{fold, list_all}
-use Rattle.st_block.specs.Block.{Cell, Head, block_of, cells_from, end_of, entries_of, is_long, is_restart, offsets_at}
+use Rattle.st_block.specs.Block.{Cell, Head, block_of, cells_from, end_of, entries_of, is_long, is_restart, offsets_at, restarts_of}
 use Rattle.st_base.specs.declared.faults.BlockFault.{BlockFault}
 use Rattle.st_base.specs.declared.faults.BlockFault.TheVariants.{Restarts, Entry}
 use Rattle.st_block.specs.declared.kind.BlockKind.TheVariants.{Data}
@@ -84,6 +84,7 @@ pub record IsLayout (kind : BlockKind) (text : List ℕ) (layout : Layout) (cell
   pub restarts : 0 < layout.entries → list_all (is_restart cells) (offsets_at text layout.end layout.restarts) ≡ true
   pub count : length cells ≡ layout.entries
   pub end : layout.end ≡ end_of text
+  pub offsets : offsets_at text layout.end layout.restarts ≡ restarts_of text
   pub room : layout.end + 4 * layout.restarts + 4 ≡ length text
 
 -- the counts of a block whose restarts fit, and of one whose restarts don't, with its fault

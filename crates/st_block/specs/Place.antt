@@ -3,23 +3,25 @@ use Rattle.std.specs.Prelude.{◌≡◌, ℕ, ◌+◌, ◌<◌, ◌≤◌, Bool,
 use Rattle.std.specs.Result.{result_unwrap_or}
 use Rattle.std.specs.Ordering.{is_lt}
 use Rattle.st_base.specs.Order.{rises}
-use Rattle.st_block.specs.Block.{Cell, block_of, end_of, entries_of}
+use Rattle.st_block.specs.Block.{Cell, block_of, end_of, entries_of, offsets_at, restarts_of}
 use Rattle.st_block.specs.Entry.{IsLayout}
 use Rattle.st_block.specs.InternalKey.{internal_cmp, is_key_before}
 use Rattle.st_block.specs.declared.kind.BlockKind.{BlockKind}
 use Rattle.st_block.specs.declared.open.Layout.{Layout}
 
--- what a block has: its kind, where its entries end, and the entries
+-- what a block has: its kind, where its entries end, the entries, and the restarts behind them
 pub record Contents : Type 0 where
   pub kind : BlockKind
   pub end : ℕ
   pub cells : List Cell
+  pub restarts : List ℕ
 
 -- the block is what these bytes are as a block of this kind
 pub record Opens (kind : BlockKind) (text : List ℕ) (block : Contents) : Type 0 where
   pub cells : block_of kind text ≡ Ok block.cells
   pub kind_is : block.kind ≡ kind
   pub end : block.end ≡ end_of text
+  pub restarts : block.restarts ≡ restarts_of text
   pub within : block.end ≤ length text
 
 -- the entries from the one at this place on
@@ -76,7 +78,8 @@ abbrev pub cells_in : BlockKind → List ℕ → List Cell
 cells_in kind area = result_unwrap_or (entries_of kind area) []
 
 abbrev pub contents_in : BlockKind → List ℕ → Layout → Contents
-contents_in kind text layout = record { kind = kind; end = layout.end; cells = cells_in kind (take layout.end text) }
+contents_in kind text layout =
+    record { kind = kind; end = layout.end; cells = cells_in kind (take layout.end text); restarts = offsets_at text layout.end layout.restarts }
 
 -- the bytes from a place on lie as the layout says
 pub record Keeps (bytes : List ℕ) (from size : ℕ) (kind : BlockKind) (layout : Layout) : Type 0 where

@@ -1,11 +1,12 @@
-ghost use Rattle.std.specs.Prelude.{◌≡◌, [], ◌+◌, ◌≤◌, ◌↔◌, ℕ, List, length, slice_range, Err, IfErr, IfNone, IfOk, IfSome, IsTrue};
+ghost use Rattle.std.specs.Prelude.{◌≡◌, [], ◌+◌, ◌-◌, ◌<◌, ◌≤◌, ◌↔◌, ℕ, List, length, slice_range, Err, IfErr, IfNone, IfOk, IfSome, IsTrue};
 
 use crate::kind::BlockKind;
 use crate::open::{Layout, layout_of};
 use crate::walk::{lower_in, read_in};
-use st_base::{BlockFault, Bytes, Scratch};
-use std::marker::Model;
+use st_base::{BlockFault, Bytes, Scratch, Steps};
+use std::marker::{Brand, Model};
 use std::sync::Arc;
+use std::sync::ledger::{Blank, Ledger};
 
 /// An entry of a block, where it lies. Its key stands in the scratch that it was read with.
 #[derive(Clone, Copy, Debug)]
@@ -41,6 +42,7 @@ impl Model for Block {
 impl Block {
     ghost use Rattle.st_block.specs.Block.{Cell, block_of};
     ghost use Rattle.st_block.specs.Place.{Advances, Opens, Stands, Takes, cells_at, keys_rise, lower_place};
+    ghost use Rattle.st_block.specs.Search.{IsShort};
 
     /// The block of this kind in the `size` bytes from the place `from` on, or its first fault: first of the restarts at its
     /// end, then of the entries in order, then of a restart that is no entry that shares nothing. It takes no memory, and its
@@ -114,14 +116,50 @@ impl Block {
     }
 
     /// The place of the first entry that doesn't come before the key and the sequence number, or where all end; a reader then
-    /// stands there. The keys are to rise as internal keys. It searches the restarts by halves, and then walks from one restart
-    /// to the next at most.
+    /// stands there. The keys are to rise as internal keys. `lower_counted` says how few entries it reads.
     pub fn lower(&self, key: &[u8], number: u64, scratch: &mut Scratch) -> usize
         requires { IsTrue (keys_rise self.now.cells) }
         ensures value { result ≡ lower_place self.now key.now number }
         ensures stands { Stands self.now result scratch.new }
     {
+        self.lower_from::<Brand>(key, number, scratch, Blank::new(1))
+    }
+
+    /// As `lower`, and counts its work. Each entry that is read is a step: those by which the restarts are halved, and
+    /// those from one restart on, at most to the next.
+    pub fn lower_counted<L: Ledger>(
+        &self,
+        key: &[u8],
+        number: u64,
+        scratch: &mut Scratch,
+        steps: &mut Steps<L>,
+    ) -> usize
+        requires { IsTrue (keys_rise self.now.cells) }
+        ensures value { result ≡ lower_place self.now key.now number }
+        ensures stands { Stands self.now result scratch.new }
+        ensures counted { steps.old ≤ steps.new }
+        ensures short { IsShort self.now (steps.new - steps.old) }
+    {
         let text = &self.bytes.as_slice()[self.from..self.from + self.size];
-        lower_in(text, self.kind, self.layout, key, number, scratch)
+        lower_in(text, self.kind, self.layout, key, number, scratch, steps)
+    }
+
+    // As `lower`, with a counter of its own.
+    fn lower_from<L: Ledger>(
+        &self,
+        key: &[u8],
+        number: u64,
+        scratch: &mut Scratch,
+        blank: Blank,
+    ) -> usize
+        requires name { blank.name ≡ L.name }
+        requires parts { blank.parts ≡ L.parts }
+        requires some { 0 < blank.parts }
+        requires rise { IsTrue (keys_rise self.now.cells) }
+        ensures value { result ≡ lower_place self.now key.now number }
+        ensures stands { Stands self.now result scratch.new }
+    {
+        let mut steps = Steps::<L>::start(blank);
+        self.lower_counted(key, number, scratch, &mut steps)
     }
 }

@@ -1,4 +1,15 @@
-//! One block of a table: prefix-compressed entries, restart offsets, and their count.
+//! One block of a table, as LevelDB and RocksDB lay it out:
+//!
+//! ```text
+//! entry ..                   varint32 shared, varint32 unshared, varint32 value length, unshared key bytes, value
+//! restart offset ..          each a fixed32: the offset of an entry that shares nothing; the first is 0, and they rise
+//! count of restart offsets   a fixed32
+//! ```
+//!
+//! The layer above may rely on this: `Block::open` accepts exactly the blocks of this layout and answers the first fault of
+//! all others; it takes no memory and reads a block where it lies in shared bytes. `Block::lower` is the first place at or
+//! after a key and a sequence number. `BlockWriter::finish` gives exactly the written block, and opening it gives the
+//! entries that were added.
 #![tactic(auto)]
 
 mod block;

@@ -1,4 +1,7 @@
-use crate::{Block, BlockEntry, BlockKind, BlockWriter};
+ghost use Rattle.std.specs.Prelude.{IsTrue};
+ghost use Rattle.st_block.specs.Place.{keys_rise};
+
+use crate::{Block, BlockEntry, BlockKind, BlockWriter, index_keys_rise};
 use st_base::{BlockFault, Bytes, Scratch};
 use std::alloc::Global;
 use std::sync::Arc;
@@ -124,5 +127,43 @@ fn what_is_written_is_read(rt: HostRuntime) -> Result<(), Fail> {
         scratch.as_slice(),
         b"a\x01\x05\x00\x00\x00\x00\x00\x00".as_slice()
     );
+    Ok(())
+}
+
+// Keys and numbers, and the places in the block of three entries at which they are found.
+static LOOKED_FOR: [(&[u8], u64, usize); 9] = [
+    (b"", 9, 0),
+    (b"a", 5, 0),
+    (b"a", 4, 13),
+    (b"aa", 4, 13),
+    (b"ab", 7, 13),
+    (b"ab", 6, 25),
+    (b"ab", 3, 25),
+    (b"ab", 2, 41),
+    (b"b", 9, 41),
+];
+
+// Whether each of them is found at its place.
+fn are_found(block: &Block, scratch: &mut Scratch) -> bool
+    requires { IsTrue (keys_rise block.now.cells) }
+{
+    for case in LOOKED_FOR.iter() {
+        if block.lower(case.0, case.1, scratch) != case.2 {
+            return false;
+        }
+    }
+    true
+}
+
+#[test]
+fn lower_finds_the_first_at_or_after(rt: HostRuntime) -> Result<(), Fail> {
+    let text = three(rt.alloc())?;
+    let size = text.len();
+    let mut scratch = Scratch::new(rt.alloc())?;
+    let bytes = Arc::new(rt.alloc(), text)?;
+    let opened = Block::open(bytes, 0, size, BlockKind::Index, &mut scratch);
+    let block = opened.ok().ok_or("no block")?;
+    index_keys_rise();
+    assert!(rt; are_found(&block, &mut scratch), "a place differs");
     Ok(())
 }

@@ -1,16 +1,17 @@
-ghost use Rattle.std.specs.Prelude.{◌≡◌, ℕ, [], ◌<◌, ◌+◌, ◌*◌, ◌≤◌, ◌⊎◌, Bool, IfNone, IfSome, IsTrue, List, Some, length, take, drop, slice_range};
+ghost use Rattle.std.specs.Prelude.{◌≡◌, ℕ, [], ◌<◌, ◌+◌, ◌-◌, ◌*◌, ◌^◌, ◌≤◌, ◌⊎◌, Bool, IfNone, IfSome, IsTrue, List, Some, length, take, drop, slice_range};
 ghost use Rattle.std.specs.Int.{w32, from_le_bytes};
 ghost use Rattle.st_block.specs.Block.{Cell, cell_at};
 ghost use Rattle.st_block.specs.Entry.{IsLayout, IsRead};
 ghost use Rattle.st_block.specs.Place.{Stands, Takes, cells_at, cells_in, contents_in, keys_rise, lower_place};
-ghost use Rattle.st_block.specs.Search.{IsStart};
+ghost use Rattle.st_block.specs.Search.{IsLast, IsShort, IsStart};
 
 use crate::entry::{Read, head_at, read_at};
 use crate::keys::is_key_before;
 use crate::kind::BlockKind;
 use crate::open::Layout;
 use crate::tail::offset_at;
-use st_base::Scratch;
+use st_base::{Scratch, Steps};
+use std::sync::ledger::Ledger;
 
 /// The entry at the place, or none at the end. Its key is put into the scratch.
 pub(crate) fn read_in(
@@ -45,11 +46,22 @@ fn restart_key(area: &[u8], at: usize) -> &[u8]
     &area[head.behind..end]
 }
 
-// The last restart whose entry comes before the place of the key and the number, or the first restart.
-fn start_of(text: &[u8], kind: BlockKind, layout: Layout, key: &[u8], number: u64) -> usize
+// The last restart whose entry comes before the place of the key and the number, or the first restart. Each entry that
+// is read is a step.
+fn start_of<L: Ledger>(
+    text: &[u8],
+    kind: BlockKind,
+    layout: Layout,
+    key: &[u8],
+    number: u64,
+    steps: &mut Steps<L>,
+) -> usize
     requires lies { IsLayout kind text.now layout (cells_in kind (take layout.end text.now)) }
     requires some { 0 < layout.entries }
-    ensures { IsStart kind text.now layout key.now number result }
+    ensures start { IsStart kind text.now layout key.now number result }
+    ensures last { IsLast kind text.now layout key.now number result }
+    ensures counted { steps.old ≤ steps.new }
+    ensures halved { 2 ^ (steps.new - steps.old) ≤ 2 * layout.restarts + 1 }
 {
     let area = &text[..layout.end];
     let mut low = 0;
@@ -57,6 +69,7 @@ fn start_of(text: &[u8], kind: BlockKind, layout: Layout, key: &[u8], number: u6
     while low + 1 < high {
         let middle = low + (high - low) / 2;
         let at = offset_at(text, layout.end + 4 * middle) as usize;
+        steps.tick();
         if is_key_before(restart_key(area, at), key, number) {
             low = middle;
         } else {
@@ -67,25 +80,29 @@ fn start_of(text: &[u8], kind: BlockKind, layout: Layout, key: &[u8], number: u6
 }
 
 /// The place of the first entry that doesn't come before the key and the number, or the end. Its key is put into the
-/// scratch.
-pub(crate) fn lower_in(
+/// scratch. Each entry that is read is a step.
+pub(crate) fn lower_in<L: Ledger>(
     text: &[u8],
     kind: BlockKind,
     layout: Layout,
     key: &[u8],
     number: u64,
     scratch: &mut Scratch,
+    steps: &mut Steps<L>,
 ) -> usize
     requires lies { IsLayout kind text.now layout (cells_in kind (take layout.end text.now)) }
     requires order { IsTrue (keys_rise (cells_in kind (take layout.end text.now))) }
     ensures value { result ≡ lower_place (contents_in kind text.now layout) key.now number }
     ensures stands { Stands (contents_in kind text.now layout) result scratch.new }
+    ensures counted { steps.old ≤ steps.new }
+    ensures short { IsShort (contents_in kind text.now layout) (steps.new - steps.old) }
 {
     if layout.entries == 0 {
         return layout.end;
     }
-    let mut at = start_of(text, kind, layout, key, number);
+    let mut at = start_of(text, kind, layout, key, number, steps);
     while let Some(read) = read_in(text, kind, layout, at, scratch) {
+        steps.tick();
         if !is_key_before(scratch.as_slice(), key, number) {
             break;
         }

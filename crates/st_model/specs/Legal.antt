@@ -96,11 +96,10 @@ pub record IsLegal (opening : ModelState) (capacity : ℕ) (transcripts : List (
 abbrev pub after : ModelState → Call → ModelState
 after state call = if is_change call.reply then after_call state call else state
 
--- what one answer of a store says, which is at this state and has no fault
+-- what one answer of a store says, which is at this state
 pub record IsStep (state : ModelState) (capacity : ℕ) (call : Call) : Type 0 where
   -- an accepted change, and nothing else, makes the place grow
   pub grows : (after state call).place ≡ state.place + (if is_change call.reply then 1 else 0)
   -- the place that is printed is the one after the call
   pub place : call.place ≡ (after state call).place
   pub answered : IsReply state capacity call.asked call.reply
-  pub no_stop : IsFalse (is_stop call.reply)

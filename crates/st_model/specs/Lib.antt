@@ -9,3 +9,4 @@ pub mod Line
 pub mod Asked
 pub mod History
 pub mod Legal
+pub mod Contents

@@ -7,6 +7,7 @@
 
 mod change;
 mod command;
+mod contents;
 pub mod plain;
 mod refusal;
 mod reply;
@@ -14,6 +15,7 @@ mod state;
 
 pub use change::{Batch, Change, Op};
 pub use command::{Asked, Call, Calls, Command, FileSeen};
+pub use contents::{Contents, ContentsFamily};
 pub use refusal::Refusal;
 pub use reply::Reply;
 pub use state::{Marks, ModelFamily, ModelState, Snapshot};

@@ -2,6 +2,7 @@ ghost use Rattle.std.specs.Prelude.{◌≡◌};
 ghost use Rattle.st_model.specs.Refusal.{refusal_number};
 
 use st_base::Family;
+use std::alloc::AllocError;
 
 /// Why a command is refused. Each refusal but the last has a number and a name, which a transcript prints.
 #[derive(Debug, Drop, PartialEq, Eq, Clone)]
@@ -33,5 +34,15 @@ impl Refusal {
             Refusal::DiskFault => Some(20),
             Refusal::OutOfMemory => None,
         }
+    }
+}
+
+impl From<AllocError> for Refusal {
+    ghost use Rattle.st_model.specs.declared.refusal.Refusal.TheVariants.{OutOfMemory};
+
+    ghost from_gives = { λ _ refusal. refusal ≡ OutOfMemory };
+
+    fn from(_: AllocError) -> Refusal {
+        Refusal::OutOfMemory
     }
 }

@@ -7,7 +7,7 @@ use Rattle.st_base.specs.declared.faults.BlockFault.{BlockFault}
 use Rattle.st_base.specs.declared.faults.TableFault.{TableFault}
 use Rattle.st_base.specs.declared.faults.TableFault.TheVariants.{Compressed, Sum, Block}
 use Rattle.st_code.specs.Crc.{crc32c, mask}
-use Rattle.st_block.specs.Block.{Cell, block_of, end_of}
+use Rattle.st_block.specs.Block.{Cell, block_of, end_of, restarts_of}
 use Rattle.st_block.specs.Place.{Contents}
 use Rattle.st_block.specs.declared.kind.BlockKind.{BlockKind}
 use Rattle.st_table.specs.declared.handle.Handle.{Handle}
@@ -28,7 +28,7 @@ found_sum bytes handle = mask (crc32c (slice_range bytes handle.offset (handle.o
 
 -- the entries of a block that begins at a place in the file, and where they end
 abbrev pub opened : BlockKind → ℕ → List ℕ → Result (List Cell) BlockFault → Result Contents TableFault
-opened kind at text (Ok cells) = Ok (record { kind = kind; end = end_of text; cells = cells })
+opened kind at text (Ok cells) = Ok (record { kind = kind; end = end_of text; cells = cells; restarts = restarts_of text })
 opened kind at text (Err fault) = Err (Block at fault)
 
 -- the block of a handle that lies in the file, or its first fault

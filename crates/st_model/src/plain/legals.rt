@@ -158,7 +158,8 @@ fn are_legal(
 
 /// Whether the transcripts are one run of the store from its opening state: the changes have the places from 1 on,
 /// each once; places never fall along a transcript; each reply is the model's at its place; and the refusals that
-/// come from a fault have one. `input_faults` is how often the inputs failed, `disk_failed` whether the disk did.
+/// come from a fault have one. `input_faults` is how often the inputs failed, `disk_failed` whether the disk did. No
+/// command of this version is refused for its inputs, so every number of their faults gives the same answer yet.
 pub fn legal(
     alloc: Global,
     opening: &ModelState,

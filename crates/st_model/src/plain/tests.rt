@@ -3,8 +3,8 @@ use crate::command::{Asked, Call, Calls, Command};
 use crate::plain::{apply, history, legal, read, reply};
 use crate::refusal::Refusal;
 use crate::reply::Reply;
-use crate::state::ModelState;
-use st_base::{Family, Key, List, Value};
+use crate::state::{Marks, ModelFamily, ModelState};
+use st_base::{Family, Key, List, Mark, Value};
 use std::alloc::Global;
 use std::test::Fail;
 
@@ -247,5 +247,23 @@ fn read_back(rt: HostRuntime) -> Result<(), Fail> {
         assert!(rt; read(family, 0, &key)?.is_none());
         assert!(rt; read(family, 1, &key)?.is_some());
     }
+    Ok(())
+}
+
+// A key that has a mark in the base alone reads it, at every number.
+#[test]
+fn base_is_read(rt: HostRuntime) -> Result<(), Fail> {
+    let alloc = rt.alloc();
+    let mut base = Marks::new(alloc);
+    base.set(key(alloc)?, Mark::Put(value(alloc)?))?;
+    let family = ModelFamily {
+        id: 0,
+        base,
+        writes: List::new(alloc),
+        ranges: List::new(alloc),
+        known: List::new(alloc),
+    };
+    let key = key(alloc)?;
+    assert!(rt; read(&family, 0, &key)?.is_some());
     Ok(())
 }

@@ -1,4 +1,4 @@
-use Rattle.std.proofs.Common.{◌≡◌, ◌++◌, ◌∷◌, [], List, ℕ, map, ap, ◌∙◌, sym, subst}
+use Rattle.std.proofs.Common.{◌≡◌, ◌++◌, ◌∷◌, [], List, ℕ, map, false, refl, ap, ◌∙◌, sym, subst}
 use Rattle.std.proofs.lemmas.List.{map-append}
 use Rattle.st_model.specs.declared.command.Asked.{Asked}
 use Rattle.st_model.specs.declared.command.Call.{Call}
@@ -28,8 +28,8 @@ loop-numbered-preserved c =
       calls = old.calls ++ call ∷ [];
       state = after old.state call;
       stands = steps.stands;
-      so_far = subst (λ asks. SoFar new_store capacity (old.calls ++ call ∷ []) (after old.state call) asks) taken
-          (so_far_grows new_store capacity old.calls call old.state (map asked c.loop-numbered.yielded) old.so_far steps.step);
+      so_far = subst (λ asks. SoFar new_store capacity false (old.calls ++ call ∷ []) (after old.state call) asks) taken
+          (so_far_grows new_store capacity false false old.calls call old.state (map asked c.loop-numbered.yielded) old.so_far steps.step (record { change = λ _. refl; still = λ _. (refl, steps.no_stop) }));
       unknown = Each-append (λ (d : Call). refused_family d.reply ≡ stranger_of d.asked.command) old.calls (call ∷ []) old.unknown (steps.unknown, tt);
       printed = transcript_grows c.args.name.now old.calls call c.answer_command.new.text c.loop-numbered.text old.printed more.printed;
     }

@@ -1,4 +1,4 @@
-use Rattle.std.proofs.Common.{◌≡◌, List, map}
+use Rattle.std.proofs.Common.{◌≡◌, List, false, map}
 use Rattle.std.specs.List.{AllByRecursion as Each}
 use Rattle.st_model.specs.declared.command.Call.{Call}
 use Rattle.st_model.specs.declared.state.ModelState.{ModelState}
@@ -17,7 +17,7 @@ invariant-loop-numbered l = record {
   calls : List Call;
   state : ModelState;
   stands : Stands l.store state;
-  so_far : SoFar new_store capacity calls state (map (λ (numbered : Numbered). asked_of numbered.command) l.yielded);
+  so_far : SoFar new_store capacity false calls state (map (λ (numbered : Numbered). asked_of numbered.command) l.yielded);
   unknown : Each (λ call. refused_family call.reply ≡ stranger_of call.asked.command) calls;
   printed : l.text ≡ transcript l.name calls;
 }

@@ -28,6 +28,6 @@ returns-in_ok-reply-in-Get c = λ state h.
     let read = read_is (filter (λ name. not (has_family state name)) (family ∷ [])) (read_in state state.last family key) in
     let change : is_change call.reply ≡ false = ap is_change is ∙ read.0 in
     let stop : is_stop call.reply ≡ false = ap is_stop is ∙ read.1 in
-    let step : IsStep state CAPACITY call × (after state call ≡ state) = stays state CAPACITY call change stop (sym h.place) is in
+    let step : IsStep state CAPACITY call × (after state call ≡ state) = stays state CAPACITY call change (sym h.place) is in
     subst (λ (command : Command). Steps c.args.self.now state CAPACITY command answer) (sym c.in-Get.is)
-    (record { step = step.0; unknown = c.in_ok-reply-in-Get.ensures.stranger; stands = subst (λ (s : ModelState). Stands c.args.self.now s) (sym step.1) h })
+    (record { step = step.0; no_stop = stop; unknown = c.in_ok-reply-in-Get.ensures.stranger; stands = subst (λ (s : ModelState). Stands c.args.self.now s) (sym step.1) h })

@@ -26,8 +26,8 @@ returns c = λ state h.
         grows = refl;
         place = ap (λ n. n + 1) (sym h.place);
         answered = inl (ap Written last ∙ none_refused (write_refusals state CAPACITY ops) (Written (state.last + length ops)) open_);
-        no_stop = refl;
       };
+      no_stop = refl;
       unknown = sym (ap (λ names. slice_get names 0) known);
       stands = record {
         family = family_after state.last ops h.family;
