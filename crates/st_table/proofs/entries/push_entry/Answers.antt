@@ -13,7 +13,6 @@ push_tested-requires c =
     c.as_slice.ensures c.len-place.ensures c.last-before.ensures.value (sym c.in-None.ensures) in
     record { key = c.requires; value = (passes_of c.args.kind (length c.args.entries.now) (last_entry c.args.entries.now) c.args.internal.now c.args.value.now e).size }
 
-
 pub returns-in_ok-push_tested-in-None-clause-rows : goal.returns-in_ok-push_tested-in-None-clause-rows
 returns-in_ok-push_tested-in-None-clause-rows c = λ rows.
     let e = no_fault c.args.kind c.args.entries.now c.as_slice.result.now c.len-place.result (option_copied c.last-before.result) c.args.internal.now c.args.value.now

@@ -1,0 +1,20 @@
+ghost use Rattle.std.specs.Prelude.{◌≡◌, ◌↔◌, ℕ, List, [], ◌∷◌, ◌++◌, IsTrue, None};
+ghost use Rattle.st_base.specs.declared.entry.Entry.{Entry};
+ghost use Rattle.st_table.specs.IsTable.{IsTable};
+ghost use Rattle.st_table.specs.Table.{first_fault, keys_rise};
+ghost use Rattle.st_table.specs.Written.{Holds, Writer, added};
+ghost use Rattle.st_table.specs.declared.kind.TableKind.{TableKind};
+ghost use Rattle.st_table.specs.declared.kind.TableKind.TheVariants.{External};
+
+/// Bytes without a first fault are a table, with one list of entries, and bytes with one are none; the keys of an external
+/// table rise strictly.
+pub fn table_or_first_fault()
+    ensures exact { (bytes : List ℕ) (kind : TableKind) → (first_fault bytes kind ≡ None) ↔ ((entries : List Entry) × IsTable bytes kind entries) }
+    ensures one { (bytes : List ℕ) (kind : TableKind) (one other : List Entry) → IsTable bytes kind one → IsTable bytes kind other → one ≡ other }
+    ensures external { (bytes : List ℕ) (entries : List Entry) → IsTable bytes External entries → IsTrue (keys_rise entries) }
+{}
+
+/// Who adds an entry to a writer that holds some adds it behind them.
+pub fn table_writer_holds_what_is_added()
+    ensures { (writer : Writer) (entries : List Entry) (entry : Entry) → Holds writer entries → Holds (added writer entry) (entries ++ entry ∷ []) }
+{}
