@@ -27,8 +27,8 @@ index_more at (one ∷ closed) group =
     let head : Pair = (last_key [] one, handle_bytes (record { offset = at; size = length (data_block one) })) in
     ap (λ (l : List Pair). head ∷ l)
     (index_more (at + size) closed group
-      ∙ ap (λ (n : ℕ). index_pairs (at + size) closed ++ (last_key [] group, handle_bytes (record { offset = n; size = length (data_block group) })) ∷ [])
-      (let k : at + size + length (data_bytes closed) ≡ at + length (data_bytes (one ∷ closed)) = omega (arith, length-append (stored (data_block one)) (data_bytes closed)) in k))
+    ∙ ap (λ (n : ℕ). index_pairs (at + size) closed ++ (last_key [] group, handle_bytes (record { offset = n; size = length (data_block group) })) ∷ [])
+    (let k : at + size + length (data_bytes closed) ≡ at + length (data_bytes (one ∷ closed)) = omega (arith, length-append (stored (data_block one)) (data_bytes closed)) in k))
 
 -- a block whose entries are these is written so
 finished_is : (writing : Writing) (interval : ℕ) (pairs : List Pair) → BlockHolds writing pairs → writing.interval ≡ interval → finished_block writing ≡ written_block interval pairs
@@ -55,8 +55,8 @@ closes blocks block index closed group b h i x =
       indexed_is =
           subst (λ (pairs : List Pair). BlockHolds (indexed_block index (length blocks) block) pairs)
           (ap (λ (l : List ℕ). index_pairs 0 closed ++ (l, handle_bytes (record { offset = length blocks; size = length (finished_block block) })) ∷ []) key
-            ∙ ap (λ (l : List ℕ). index_pairs 0 closed ++ (last_key [] group, l) ∷ []) value
-            ∙ sym (index_more 0 closed group))
+          ∙ ap (λ (l : List ℕ). index_pairs 0 closed ++ (last_key [] group, l) ∷ []) value
+          ∙ sym (index_more 0 closed group))
           (holds_more index (index_pairs 0 closed) block.last (handle_bytes (record { offset = length blocks; size = length (finished_block block) })) x);
     }
 

@@ -120,11 +120,11 @@ unfolding footer_of handles_of
 ok_footer kind bytes footer size is ml il =
     skip (ltb (greatest_size kind) (length bytes)) TooLarge _ footer (le-ltb _ _ size)
     (skip (ltb (length bytes) 53) Short _ footer (le-ltb _ _ is.long)
-      (skip (not (eqb (magic_of bytes) magic)) Magic _ footer (true_not _ (eq-eqb _ _ is.magic_is))
-        (skip (not (eqb (version_of bytes) 2)) (Version (version_of bytes)) _ footer (true_not _ (eq-eqb _ _ is.version_is))
-          (skip (not (eqb (checksum_of bytes) 1)) (Checksum (checksum_of bytes)) _ footer (true_not _ (eq-eqb _ _ is.checksum_is))
-            (ok_bind (footer_handle bytes (length bytes - 52)) _ (footer.metaindex, is.index_at) footer (here (length bytes - 52) (footer.metaindex, is.index_at) is.metaindex_is ml)
-              (ok_bind (footer_handle bytes is.index_at) _ (footer.index, is.behind) footer (here is.index_at (footer.index, is.behind) is.index_is il) refl))))))
+    (skip (not (eqb (magic_of bytes) magic)) Magic _ footer (true_not _ (eq-eqb _ _ is.magic_is))
+    (skip (not (eqb (version_of bytes) 2)) (Version (version_of bytes)) _ footer (true_not _ (eq-eqb _ _ is.version_is))
+    (skip (not (eqb (checksum_of bytes) 1)) (Checksum (checksum_of bytes)) _ footer (true_not _ (eq-eqb _ _ is.checksum_is))
+    (ok_bind (footer_handle bytes (length bytes - 52)) _ (footer.metaindex, is.index_at) footer (here (length bytes - 52) (footer.metaindex, is.index_at) is.metaindex_is ml)
+    (ok_bind (footer_handle bytes is.index_at) _ (footer.index, is.behind) footer (here is.index_at (footer.index, is.behind) is.index_is il) refl))))))
   where
     here : (at : ℕ) (found : Handle × ℕ) → handle_at bytes at ≡ Some found → lies bytes found.0 ≡ true → footer_handle bytes at ≡ Ok found
     here at found e l = ap (lying bytes at) e ∙ ap (λ (t : Bool). cond t (Ok found) (Err (HandleFault at))) l
@@ -150,10 +150,10 @@ unfolding block_at
 ok_block_at kind bytes handle block is =
     skip (not (eqb (compression bytes handle) 0)) (Compressed handle.offset) _ block (true_not _ (eq-eqb _ _ is.uncompressed))
     (skip (not (eqb (stored_sum bytes handle) (found_sum bytes handle))) (Sum handle.offset (stored_sum bytes handle) (found_sum bytes handle)) _ block (true_not _ (eq-eqb _ _ is.sum))
-      (ap (opened kind handle.offset (contents_at bytes handle)) is.cells_are
-        ∙ ap (λ (n : ℕ). let r : Result Contents TableFault = Ok (record { kind = kind; end = n; cells = block.cells; restarts = restarts_of (contents_at bytes handle) }) in r) (sym is.end_is)
-        ∙ ap (λ (l : List ℕ). let r : Result Contents TableFault = Ok (record { kind = kind; end = block.end; cells = block.cells; restarts = l }) in r) (sym is.restarts_are)
-        ∙ ap (λ (k : BlockKind). let r : Result Contents TableFault = Ok (record { kind = k; end = block.end; cells = block.cells; restarts = block.restarts }) in r) (sym is.kind_is)))
+    (ap (opened kind handle.offset (contents_at bytes handle)) is.cells_are
+    ∙ ap (λ (n : ℕ). let r : Result Contents TableFault = Ok (record { kind = kind; end = n; cells = block.cells; restarts = restarts_of (contents_at bytes handle) }) in r) (sym is.end_is)
+    ∙ ap (λ (l : List ℕ). let r : Result Contents TableFault = Ok (record { kind = kind; end = block.end; cells = block.cells; restarts = l }) in r) (sym is.restarts_are)
+    ∙ ap (λ (k : BlockKind). let r : Result Contents TableFault = Ok (record { kind = k; end = block.end; cells = block.cells; restarts = block.restarts }) in r) (sym is.kind_is)))
 
 pub stored_lies : (bytes : List ℕ) (kind : BlockKind) (handle : Handle) (block : Contents) → IsStored bytes kind handle block → lies bytes handle ≡ true
 stored_lies bytes kind handle block is = le-leb _ _ is.inside

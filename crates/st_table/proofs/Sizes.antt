@@ -68,14 +68,14 @@ stored_length contents = omega (arith, length-append contents (0 ∷ fixed32 (ma
 pub handle_short : (handle : Handle) → length (handle_bytes handle) ≤ 20
 handle_short handle = omega (arith, length-append (varint handle.offset) (varint handle.size), varint_short handle.offset, varint_short handle.size)
 
-zeros_length : (n : ℕ) → length {A = ℕ} (replicate n 0) ≡ n
+pub zeros_length : (n : ℕ) → length {A = ℕ} (replicate n 0) ≡ n
 zeros_length zero = refl
 zeros_length (suc n) = ap suc (zeros_length n)
 
 padded_length : (bytes : List ℕ) → length bytes ≤ 41 → length (padded bytes) ≡ 41
 padded_length bytes le = omega (arith, length-append bytes (replicate (41 - length bytes) 0), zeros_length (41 - length bytes))
 
-head_short : (metaindex index : Handle) → length (1 ∷ handle_bytes metaindex ++ handle_bytes index) ≤ 41
+pub head_short : (metaindex index : Handle) → length (1 ∷ handle_bytes metaindex ++ handle_bytes index) ≤ 41
 head_short metaindex index = omega (arith, length-append (1 ∷ handle_bytes metaindex) (handle_bytes index), handle_short metaindex, handle_short index)
 
 pub footer_length : (metaindex index : Handle) → length (footer_bytes metaindex index) ≡ 53

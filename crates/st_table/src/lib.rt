@@ -13,6 +13,7 @@ mod find;
 mod footer;
 mod handle;
 mod kind;
+mod laws;
 mod metaindex;
 mod properties;
 mod stored;
@@ -21,7 +22,6 @@ mod table;
 #[cfg(test)]
 mod tests;
 mod writer;
-mod laws;
 
 pub use fault::OpenTableFault;
 pub use kind::TableKind;
