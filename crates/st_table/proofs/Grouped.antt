@@ -1,17 +1,17 @@
 -- Entries as pairs of a key and a value in blocks, and the blocks that they are cut into.
-use Rattle.std.proofs.Common.{◌≡◌, ◌⊎◌, ℕ, zero, suc, ◌+◌, ◌-◌, ◌*◌, ◌/◌, ◌%◌, ◌^◌, ◌<◌, ◌≤◌, Bool, true, false, cond, eqb, leb, ltb, ◌&&◌, List, [], ◌∷◌, ◌++◌, length, take, drop, Option, Some, None, Ordering, Less, Equal, Greater, refl, sym, ap, subst, ◌∙◌, append_assoc, inl, inr, arith}
-use Rattle.std.specs.Prelude.{not, map, fold, slice_get}
+use Rattle.std.proofs.Common.{◌≡◌, ℕ, suc, ◌+◌, ◌-◌, ◌*◌, ◌/◌, ◌%◌, ◌^◌, ◌<◌, ◌≤◌, Bool, true, false, cond, eqb, leb, List, [], ◌∷◌, ◌++◌, length, take, drop, Some, Ordering, Less, Equal, Greater, refl, sym, ap, subst, ◌∙◌, append_assoc, inl, inr, arith}
+use Rattle.std.specs.Prelude.{map, fold, slice_get}
 use Rattle.std.specs.List.{AllByRecursion, flat_map}
 use Rattle.std.specs.Ordering.{is_le, is_lt, nat_cmp, ordering_then}
 use Rattle.std.specs.Int.{w64, from_le_bytes}
-use Rattle.std.proofs.lemmas.Bool.{and_parts, and_from, cases_lt, eq-eqb, false≢true, le-leb, le-ltb, lt-ltb, ltb-true, ne_eqb}
+use Rattle.std.proofs.lemmas.Bool.{and_parts, cases_lt, false≢true, le-leb, le-ltb, lt-ltb}
 use Rattle.std.proofs.lemmas.Cmp.{tied_itself}
-use Rattle.std.proofs.lemmas.List.{append-nil, drop_at, length-append, map-append, take_at}
+use Rattle.std.proofs.lemmas.List.{append-nil, drop_at, length-append, take_at}
 use Rattle.std.proofs.lemmas.Nat.{from_le_bytes-to_le_bytes_8}
 use Rattle.st_base.proofs.Ordered.{places_total}
 use Rattle.st_base.specs.Bytes.{bytes_cmp}
-use Rattle.st_base.specs.Order.{comes_before, in_order, is_before, place_cmp, rises_behind}
-use Rattle.st_base.specs.Rows.{Fits, FitsMark}
+use Rattle.st_base.specs.Order.{comes_before, place_cmp, rises_behind}
+use Rattle.st_base.specs.Rows.{FitsMark}
 use Rattle.st_base.specs.declared.entry.Entry.{Entry}
 use Rattle.st_base.specs.declared.entry.Mark.{Mark}
 use Rattle.st_base.specs.declared.entry.Mark.TheVariants.{Put, Gone}

@@ -1,13 +1,13 @@
 -- What holds where a step of reading gives a value.
-use Rattle.std.proofs.Common.{◌≡◌, ◌≢◌, ℕ, ◌+◌, ◌-◌, ◌≤◌, Bool, true, false, cond, eqb, leb, ltb, ◌&&◌, ◌||◌, List, [], ◌∷◌, length, Option, Some, None, Result, Ok, Err, refl, sym, ap, subst, ◌∙◌, arith}
-use Rattle.std.specs.Prelude.{not, option_and_then, option_map, IfSome}
+use Rattle.std.proofs.Common.{◌≡◌, ℕ, ◌+◌, ◌-◌, ◌≤◌, Bool, true, false, cond, eqb, ltb, List, length, Option, Some, None, Result, Ok, Err, refl, sym, ap, subst, ◌∙◌}
+use Rattle.std.specs.Prelude.{not, option_and_then, IfSome}
 use Rattle.std.specs.Option.{is_some}
-use Rattle.std.proofs.lemmas.Bool.{eqb-true, eq-eqb, ltb-false, leb-true, le-leb, le-ltb, and_parts, and_from}
+use Rattle.std.proofs.lemmas.Bool.{eqb-true, eq-eqb, ltb-false, leb-true, le-leb, le-ltb}
 use Rattle.st_base.proofs.Same.{same_true, same_self}
 use Rattle.st_base.specs.Bytes.{same}
 use Rattle.st_base.specs.declared.faults.BlockFault.{BlockFault}
 use Rattle.st_base.specs.declared.faults.TableFault.{TableFault}
-use Rattle.st_base.specs.declared.faults.TableFault.TheVariants.{Block, Checksum, Comparator, Compressed, ExternalVersion, IndexKind, Magic, NoProperties, RangeDel, Short, Sum, TooLarge, Version, Handle as HandleFault}
+use Rattle.st_base.specs.declared.faults.TableFault.TheVariants.{Checksum, Comparator, Compressed, ExternalVersion, IndexKind, Magic, RangeDel, Short, Sum, TooLarge, Version, Handle as HandleFault}
 use Rattle.st_block.specs.Block.{Cell, block_of, end_of, restarts_of}
 use Rattle.st_block.specs.Place.{Contents}
 use Rattle.st_block.specs.declared.kind.BlockKind.{BlockKind}

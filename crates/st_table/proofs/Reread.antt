@@ -1,9 +1,9 @@
 -- What was written is read again: numbers, handles, the footer and stored blocks.
-use Rattle.std.proofs.Common.{◌≡◌, ℕ, zero, suc, ◌+◌, ◌-◌, ◌*◌, ◌^◌, ◌<◌, ◌≤◌, List, [], ◌∷◌, ◌++◌, length, take, drop, get_or, Some, Result, Ok, Err, refl, sym, ap, ◌∙◌, append_assoc, arith}
-use Rattle.std.specs.Prelude.{option_and_then, replicate, slice_range, slice_index}
+use Rattle.std.proofs.Common.{◌≡◌, ℕ, ◌+◌, ◌-◌, ◌^◌, ◌<◌, ◌≤◌, List, [], ◌∷◌, ◌++◌, length, take, drop, get_or, Some, Result, Ok, refl, sym, ap, ◌∙◌, append_assoc, arith}
+use Rattle.std.specs.Prelude.{option_and_then, replicate, slice_index}
 use Rattle.std.specs.Int.{w32, w64, from_le_bytes}
 use Rattle.std.specs.Result.{result_ok}
-use Rattle.std.proofs.lemmas.List.{append-nil, drop-drop, drop_at, length-append, length-drop, take_at, get_or-drop}
+use Rattle.std.proofs.lemmas.List.{append-nil, drop-drop, drop_at, length-append, take_at, get_or-drop}
 use Rattle.std.proofs.lemmas.Nat.{from_le_bytes-to_le_bytes_4, from_le_bytes-to_le_bytes_8}
 use Rattle.st_code.specs.declared.fault.CodeFault.{CodeFault}
 use Rattle.st_code.proofs.Forms.{form_spelled, shortest_form}
@@ -16,11 +16,11 @@ use Rattle.st_block.specs.Place.{Contents}
 use Rattle.st_block.specs.declared.kind.BlockKind.{BlockKind}
 use Rattle.st_table.specs.Footer.{handle_at, magic}
 use Rattle.st_table.specs.IsTable.{IsFooter, IsStored}
-use Rattle.st_table.specs.Stored.{compression, contents_at, found_sum, stored_sum}
-use Rattle.st_table.specs.Written.{footer_bytes, handle_bytes, padded, stored}
+use Rattle.st_table.specs.Stored.{contents_at, found_sum}
+use Rattle.st_table.specs.Written.{footer_bytes, handle_bytes, stored}
 use Rattle.st_table.specs.declared.footer.Footer.{Footer}
 use Rattle.st_table.specs.declared.handle.Handle.{Handle}
-use Rattle.st_table.proofs.Sizes.{footer_length, head_short, stored_length, zeros_length}
+use Rattle.st_table.proofs.Sizes.{head_short, zeros_length}
 
 -- ---- places
 

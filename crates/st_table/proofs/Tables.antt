@@ -1,7 +1,7 @@
 -- A table is read exactly where its places are those of a table.
-use Rattle.std.proofs.Common.{◌≡◌, ◌≢◌, ℕ, zero, suc, ◌+◌, ◌-◌, ◌≤◌, Bool, true, false, cond, eqb, leb, ltb, ◌&&◌, ◌||◌, List, [], ◌∷◌, ◌++◌, length, Option, Some, None, Result, Ok, Err, Ordering, Less, Equal, Greater, refl, sym, ap, subst, ◌∙◌, append_assoc, arith}
-use Rattle.std.specs.Prelude.{not, slice_get, map, IfSome}
-use Rattle.std.specs.List.{AllByRecursion, flat_map}
+use Rattle.std.proofs.Common.{◌≡◌, ℕ, zero, suc, ◌+◌, Bool, true, false, cond, eqb, ltb, ◌||◌, List, [], ◌∷◌, ◌++◌, length, Option, Some, None, Result, Ok, Err, Ordering, Less, Equal, Greater, refl, sym, ap, subst, ◌∙◌, append_assoc, arith}
+use Rattle.std.specs.Prelude.{not, IfSome}
+use Rattle.std.specs.List.{AllByRecursion}
 use Rattle.std.specs.Ordering.{is_le, is_lt, nat_cmp, ordering_then}
 use Rattle.std.proofs.lemmas.Bool.{and_parts, and_from, le-ltb, ne_eqb, eqb-true, false≢true}
 use Rattle.std.proofs.lemmas.List.{append-nil, map-append}
@@ -16,8 +16,8 @@ use Rattle.st_block.specs.Place.{Contents}
 use Rattle.st_block.specs.declared.kind.BlockKind.TheVariants.{Data, Index, Plain}
 use Rattle.st_table.specs.DataBlocks.{data_of, first_key, last_key, parted, parts, with_block, with_blocks}
 use Rattle.st_table.specs.Entries.{entry_fault, entry_under, is_behind, is_kind, kind_of, last_entry, may_have, number_of, with_entries, with_entry}
-use Rattle.st_table.specs.Footer.{footer_of, lies, value_handle}
-use Rattle.st_table.specs.IsTable.{AreBlocks, AreDataBlocks, Blocks, IsDataBlock, IsEntry, IsTable, entries_under, joined}
+use Rattle.st_table.specs.Footer.{footer_of, value_handle}
+use Rattle.st_table.specs.IsTable.{AreDataBlocks, IsDataBlock, IsEntry, IsTable, entries_under, joined}
 use Rattle.st_table.specs.Metaindex.{properties_handle, value_place}
 use Rattle.st_table.specs.Properties.{properties_fault}
 use Rattle.st_table.specs.Steps.{◌>>=◌, Fails, unless}
@@ -25,11 +25,9 @@ use Rattle.st_table.specs.Stored.{block_at}
 use Rattle.st_table.specs.Table.{IsFirstFault, fault_of, first_fault, keys_rise, table_of}
 use Rattle.st_table.specs.declared.fault.OpenTableFault.{OpenTableFault}
 use Rattle.st_table.specs.declared.fault.OpenTableFault.TheVariants.{Bad, OutOfMemory}
-use Rattle.st_table.specs.declared.footer.Footer.{Footer}
-use Rattle.st_table.specs.declared.handle.Handle.{Handle}
 use Rattle.st_table.specs.declared.kind.TableKind.{TableKind}
 use Rattle.st_table.specs.declared.kind.TableKind.TheVariants.{External}
-use Rattle.st_table.proofs.Behind.{Passes, last_more, order_more, passes_of}
+use Rattle.st_table.proofs.Behind.{last_more, order_more, passes_of}
 use Rattle.st_table.proofs.Inverse.{bind_ok, block_at_ok, either_ok, footer_ok, is_ok_same, names_ok, ok_bind, ok_block_at, ok_footer, ok_names, ok_properties, ok_value_handle, properties_ok, stored_lies, true_not, unless_ok, value_handle_ok}
 
 -- ---- entries

@@ -1,32 +1,31 @@
 -- A table that was written is a table of its kind, with the entries that were added.
-use Rattle.std.proofs.Common.{◌≡◌, ◌⊎◌, ℕ, zero, suc, ◌+◌, ◌-◌, ◌*◌, ◌^◌, ◌<◌, ◌≤◌, Bool, true, false, cond, eqb, leb, ltb, ◌&&◌, List, [], ◌∷◌, ◌++◌, length, take, drop, Option, Some, None, Result, Ok, Err, refl, sym, ap, subst, ◌∙◌, append_assoc, inl, inr, arith}
+use Rattle.std.proofs.Common.{◌≡◌, ℕ, ◌+◌, ◌-◌, ◌^◌, ◌<◌, ◌≤◌, Bool, true, ◌&&◌, List, [], ◌∷◌, ◌++◌, length, drop, Option, Some, None, Ok, refl, sym, ap, subst, ◌∙◌, append_assoc, arith}
 use Rattle.std.specs.Prelude.{map, IfSome}
-use Rattle.std.specs.List.{AllByRecursion, flat_map}
+use Rattle.std.specs.List.{AllByRecursion}
 use Rattle.std.specs.Ordering.{is_le, is_lt}
 use Rattle.std.proofs.lemmas.Bool.{and_parts}
 use Rattle.std.proofs.lemmas.List.{drop_at, length-append, map-append}
 use Rattle.st_base.specs.Order.{comes_before, in_order, rises_behind}
 use Rattle.st_base.specs.declared.entry.Entry.{Entry}
-use Rattle.st_code.specs.Varint.{varint}
 use Rattle.st_block.specs.Block.{Cell, block_of, cells_from, tail_of}
 use Rattle.st_block.specs.InternalKey.{internal_cmp}
 use Rattle.st_block.specs.Place.{Contents}
 use Rattle.st_block.specs.Written.{FitsBlock, GoOn, MayWrite, cells_of, last_key, shared_of, entry_bytes, written_block}
 use Rattle.st_block.specs.declared.kind.BlockKind.{BlockKind}
 use Rattle.st_block.specs.declared.kind.BlockKind.TheVariants.{Data, Index, Plain}
-use Rattle.st_table.specs.DataBlocks.{first_key, last_key as last_cell_key}
+use Rattle.st_table.specs.DataBlocks.{last_key as last_cell_key}
 use Rattle.st_table.specs.Entries.{entry_under, is_behind, last_entry}
 use Rattle.st_table.specs.Footer.{greatest_size}
-use Rattle.st_table.specs.IsTable.{AreBlocks, AreDataBlocks, AreProperties, Blocks, IsDataBlock, IsEntry, IsMetaindex, IsTable, entries_under, joined}
+use Rattle.st_table.specs.IsTable.{AreDataBlocks, AreProperties, IsEntry, IsMetaindex, IsTable, entries_under, joined}
 use Rattle.st_table.specs.Metaindex.{properties_name}
-use Rattle.st_table.specs.Written.{MayBeTable, MayPut, Pair, blocks_of, data_block, data_bytes, ending, footer_bytes, handle_bytes, index_pairs, metaindex_block, pair_of, properties_block, property_pairs, stored, table_bytes, written_blocks, written_table}
+use Rattle.st_table.specs.Written.{MayBeTable, Pair, blocks_of, data_block, data_bytes, ending, footer_bytes, handle_bytes, index_pairs, metaindex_block, pair_of, properties_block, property_pairs, stored, written_blocks, written_table}
 use Rattle.st_table.specs.declared.footer.Footer.{Footer}
 use Rattle.st_table.specs.declared.handle.Handle.{Handle}
 use Rattle.st_table.specs.declared.kind.TableKind.{TableKind}
 use Rattle.st_table.specs.declared.kind.TableKind.TheVariants.{External, Own}
 use Rattle.st_table.proofs.Grouped.{NotEmpty, PairFits, before, blocks_are, entry_of_pair, internal_less, internal_same, joined_pairs, last_before, last_behind, last_key_is, last_pair, pairs_are, pairs_fit}
-use Rattle.st_table.proofs.Reread.{at_place, contents_of, footer_here, handle_whole, step, stored_here}
-use Rattle.st_table.proofs.Sizes.{ending_short, footer_length, handle_short, limit_short, stored_length, table_length, varint_short}
+use Rattle.st_table.proofs.Reread.{contents_of, footer_here, handle_whole, step, stored_here}
+use Rattle.st_table.proofs.Sizes.{footer_length, handle_short, limit_short, stored_length, table_length, varint_short}
 use Rattle.st_table.proofs.Tables.{behind_in}
 
 -- ---- cells of written pairs
@@ -118,10 +117,11 @@ index_rest kind ((pair ∷ group) ∷ groups) at p front l o some fit =
     let handle = handle_bytes (record { offset = at; size = length (data_block (pair ∷ group)) }) in
     let size = handle_short (record { offset = at; size = length (data_block (pair ∷ group)) }) in
     let fits = last_fits kind pair group parts.0 in
-    let more = index_rest kind groups (at + length (stored (data_block (pair ∷ group)))) last (front ++ here) (last_behind front pair group) (ap in_order (append_assoc front here rest) ∙ order) some.1 parts.1 in
-    (ap (λ (k : List ℕ). is_lt (internal_cmp p.0 k)) key ∙ less,
+    let more = index_rest kind groups (at + length (stored (data_block (pair ∷ group)))) last (front ++ here) (last_behind front pair group) (ap in_order (append_assoc front here rest) ∙ order) some.1 parts.1 in (
+      ap (λ (k : List ℕ). is_lt (internal_cmp p.0 k)) key ∙ less,
       subst (λ (k : List ℕ). FitsBlock Index (k, handle)) (sym key) (record { key = fits.block.key; value = omega (arith, size); long = fits.block.long }),
-      subst (λ (k : List ℕ). GoOn Index k (index_pairs (at + length (stored (data_block (pair ∷ group)))) groups)) (sym key) more)
+      subst (λ (k : List ℕ). GoOn Index k (index_pairs (at + length (stored (data_block (pair ∷ group)))) groups)) (sym key) more,
+    )
 
 may_index : (kind : TableKind) (group : List Pair) (groups : List (List Pair)) (at : ℕ) → in_order (map entry_of_pair (joined_pairs (group ∷ groups))) ≡ true → AllByRecursion NotEmpty (group ∷ groups) → AllByRecursion (PairFits kind) (joined_pairs (group ∷ groups))
     → MayWrite Index (index_pairs at (group ∷ groups))
@@ -135,9 +135,10 @@ may_index kind (pair ∷ group) groups at o some fit =
     let handle = handle_bytes (record { offset = at; size = length (data_block (pair ∷ group)) }) in
     let size = handle_short (record { offset = at; size = length (data_block (pair ∷ group)) }) in
     let fits = last_fits kind pair group parts.0 in
-    let more = index_rest kind groups (at + length (stored (data_block (pair ∷ group)))) last here (last_behind [] pair group) (ap in_order (sym (entries_joined pair group groups)) ∙ o) some.1 parts.1 in
-    (subst (λ (k : List ℕ). FitsBlock Index (k, handle)) (sym key) (record { key = fits.block.key; value = omega (arith, size); long = fits.block.long }),
-      subst (λ (k : List ℕ). GoOn Index k (index_pairs (at + length (stored (data_block (pair ∷ group)))) groups)) (sym key) more)
+    let more = index_rest kind groups (at + length (stored (data_block (pair ∷ group)))) last here (last_behind [] pair group) (ap in_order (sym (entries_joined pair group groups)) ∙ o) some.1 parts.1 in (
+      subst (λ (k : List ℕ). FitsBlock Index (k, handle)) (sym key) (record { key = fits.block.key; value = omega (arith, size); long = fits.block.long }),
+      subst (λ (k : List ℕ). GoOn Index k (index_pairs (at + length (stored (data_block (pair ∷ group)))) groups)) (sym key) more,
+    )
 
 -- what st_block says of a written block
 abbrev pub BlocksOpen : Type 0
@@ -178,8 +179,8 @@ module _ (opens : BlocksOpen) (kind : TableKind) where
       let next : drop (at + length (stored text)) bytes ≡ data_bytes groups ++ rest = step bytes (stored text) (data_bytes groups ++ rest) at (length (stored text)) first refl in
       let handle : Handle = record { offset = at; size = length text } in
       let opened = opens Data 16 (pair ∷ group) (omega arith) (may_data kind (pair ∷ group) tt parts.0) (omega (arith, size, whole, room, small)) in
-      let pairs = index_pairs at ((pair ∷ group) ∷ groups) in
-      (record {
+      let pairs = index_pairs at ((pair ∷ group) ∷ groups) in (
+        record {
           handle = handle;
           handle_is = handle_whole handle (omega (arith, room, small)) (omega (arith, size, whole, room, small));
           stored = stored_here bytes (data_bytes groups ++ rest) at Data text (cells 16 (pair ∷ group)) first (omega (arith, size, whole, room)) opened;
@@ -187,7 +188,8 @@ module _ (opens : BlocksOpen) (kind : TableKind) where
           before_first = first_known front known pair (map entry_of_pair group ++ behind) k order;
         },
         data_written bytes rest groups (count + 1) (place + length (entry_bytes (shared_of 1 count key (last_key [] (pair ∷ group))) (last_key [] (pair ∷ group)) (handle_bytes handle))) (last_key [] (pair ∷ group)) (at + length (stored text)) (front ++ here) (Some (last_key [] (pair ∷ group)))
-        (last, last_behind front pair group, index_key) next (omega (arith, size, room)) small (ap in_order (append_assoc front here behind) ∙ order) some.1 parts.1)
+            (last, last_behind front pair group, index_key) next (omega (arith, size, room)) small (ap in_order (append_assoc front here behind) ∙ order) some.1 parts.1,
+      )
 
   joined_cells_fit : (groups : List (List Pair)) → AllByRecursion (PairFits kind) (joined_pairs groups) → AllByRecursion (IsEntry kind) (joined (map block_of_group groups))
   joined_cells_fit [] fit = tt
@@ -215,11 +217,18 @@ metaindex_is end restarts handle o s = record { no_range_deletions = refl; at = 
 
 may_properties : (kind : TableKind) (count : ℕ) → MayWrite Plain (property_pairs kind count)
 may_properties External count =
-    let n = varint_short count in
-    (record { key = omega arith; value = omega arith; long = refl },
-      (refl, record { key = omega arith; value = omega arith; long = refl },
-        (refl, record { key = omega arith; value = omega arith; long = refl },
-          (refl, record { key = omega arith; value = omega (arith, n); long = refl }, tt))))
+    let n = varint_short count in (
+      record { key = omega arith; value = omega arith; long = refl },
+      (
+        refl,
+        record { key = omega arith; value = omega arith; long = refl },
+        (
+          refl,
+          record { key = omega arith; value = omega arith; long = refl },
+          (refl, record { key = omega arith; value = omega (arith, n); long = refl }, tt),
+        ),
+      ),
+    )
 may_properties Own count =
     let n = varint_short count in
     (record { key = omega arith; value = omega arith; long = refl }, (refl, record { key = omega arith; value = omega (arith, n); long = refl }, tt))
@@ -266,8 +275,8 @@ written_are opens kind count groups size o some fit =
     let at-footer : drop (mat + length (stored m)) bytes ≡ f = step bytes (stored m) f mat (length (stored m)) at-metaindex refl in
     let index_ok = index_opens opens kind groups o some fit (omega (arith, lb, small)) in
     let metaindex_ok = opens Plain 1 ((properties_name, handle_bytes ph) ∷ []) (omega arith) (may_metaindex ph) (omega (arith, lb, le, sm, small)) in
-    let properties_ok = opens Plain 1 (property_pairs kind count) (omega arith) (may_properties kind count) (omega (arith, lb, le, sp, small)) in
-    (record {
+    let properties_ok = opens Plain 1 (property_pairs kind count) (omega arith) (may_properties kind count) (omega (arith, lb, le, sp, small)) in (
+      record {
         footer = footer;
         metaindex = contents_of Plain m (cells 1 ((properties_name, handle_bytes ph) ∷ []));
         properties_handle = ph;
@@ -287,7 +296,8 @@ written_are opens kind count groups size o some fit =
         fit = joined_cells_fit opens kind groups fit;
         entries_are = sym (joined_cells_are opens kind groups);
         ordered = o;
-      })
+      },
+    )
 
 pub written_is_table : BlocksOpen → (kind : TableKind) (entries : List Entry) → MayBeTable kind entries → length (written_table kind entries) ≤ greatest_size kind → IsTable (written_table kind entries) kind entries
 written_is_table opens kind entries may size =

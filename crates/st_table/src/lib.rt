@@ -25,6 +25,6 @@ mod writer;
 
 pub use fault::OpenTableFault;
 pub use kind::TableKind;
-pub use laws::{table_or_first_fault, table_writer_holds_what_is_added};
+pub use laws::{table_or_first_fault, table_writer_holds_what_is_added, written_table_opens};
 pub use table::Table;
 pub use writer::{AddFault, TableWriter};

@@ -1,4 +1,4 @@
-use Rattle.std.proofs.Common.{◌≡◌, List, sym, subst, inl, inr, rules}
+use Rattle.std.proofs.Common.{List, sym, subst, inl, inr, rules}
 use Rattle.st_base.specs.Rows.{AreRows}
 use Rattle.st_base.specs.declared.entry.Entry.{Entry}
 use Rattle.st_table.proofs.Acting.{acting_rows}
