@@ -1,17 +1,14 @@
 -- The entries that a writer of a table holds, and the table of them.
-use Rattle.std.proofs.Common.{◌≡◌, ℕ, zero, suc, ◌+◌, Bool, true, false, cond, eqb, leb, List, [], ◌∷◌, ◌++◌, length, refl, sym, ap, subst, ◌∙◌, append_assoc, arith}
-use Rattle.std.specs.Prelude.{map, fold}
-use Rattle.std.specs.List.{flat_map}
-use Rattle.std.proofs.lemmas.Bool.{cases_Bool, ne_eqb, eq-eqb}
+use Rattle.std.proofs.Common.{◌≡◌, ℕ, ◌+◌, Bool, true, false, cond, leb, List, [], ◌∷◌, ◌++◌, length, refl, sym, ap, subst, ◌∙◌, arith}
+use Rattle.std.specs.Prelude.{map}
+use Rattle.std.proofs.lemmas.Bool.{ne_eqb, eq-eqb}
 use Rattle.std.proofs.lemmas.List.{append-nil, length-append, map-append}
 use Rattle.std.proofs.lemmas.List.Sums.{fold-append}
 use Rattle.std.proofs.lemmas.Grind.{flat_map-append}
 use Rattle.st_base.specs.declared.entry.Entry.{Entry}
 use Rattle.st_block.proofs.Writers.{holds_more}
-use Rattle.st_block.specs.Written.{Writing, added as added_to_block, entries_bytes, finished as finished_block, last_key, restarts_of, with_tail, or_zero, written_block, Holds as BlockHolds}
-use Rattle.st_table.specs.Written.{Cut, Holds, HoldsCut, Pair, Writer, added, blocks_of, closed_with, cut_more, cut_of, data_block, data_bytes, finished, finished_with, handle_bytes, index_pairs, indexed_block, internal_key, no_entries, pair_of, stored, table_bytes, value_under, with_closed, with_open, written_blocks, written_table}
-use Rattle.st_table.specs.declared.handle.Handle.{Handle}
-use Rattle.st_table.proofs.Sizes.{finished_either}
+use Rattle.st_block.specs.Written.{Writing, added as added_to_block, entries_bytes, finished as finished_block, last_key, with_tail, or_zero, written_block, Holds as BlockHolds}
+use Rattle.st_table.specs.Written.{Cut, Holds, HoldsCut, Pair, Writer, added, closed_with, cut_more, cut_of, data_block, data_bytes, finished, finished_with, handle_bytes, index_pairs, indexed_block, no_entries, pair_of, stored, table_bytes, with_closed, with_open, written_blocks, written_table}
 
 -- ---- one block more
 
@@ -27,8 +24,8 @@ index_more at (one ∷ closed) group =
     let head : Pair = (last_key [] one, handle_bytes (record { offset = at; size = length (data_block one) })) in
     ap (λ (l : List Pair). head ∷ l)
     (index_more (at + size) closed group
-      ∙ ap (λ (n : ℕ). index_pairs (at + size) closed ++ (last_key [] group, handle_bytes (record { offset = n; size = length (data_block group) })) ∷ [])
-      (let k : at + size + length (data_bytes closed) ≡ at + length (data_bytes (one ∷ closed)) = omega (arith, length-append (stored (data_block one)) (data_bytes closed)) in k))
+    ∙ ap (λ (n : ℕ). index_pairs (at + size) closed ++ (last_key [] group, handle_bytes (record { offset = n; size = length (data_block group) })) ∷ [])
+    (let k : at + size + length (data_bytes closed) ≡ at + length (data_bytes (one ∷ closed)) = omega (arith, length-append (stored (data_block one)) (data_bytes closed)) in k))
 
 -- a block whose entries are these is written so
 finished_is : (writing : Writing) (interval : ℕ) (pairs : List Pair) → BlockHolds writing pairs → writing.interval ≡ interval → finished_block writing ≡ written_block interval pairs
@@ -55,8 +52,8 @@ closes blocks block index closed group b h i x =
       indexed_is =
           subst (λ (pairs : List Pair). BlockHolds (indexed_block index (length blocks) block) pairs)
           (ap (λ (l : List ℕ). index_pairs 0 closed ++ (l, handle_bytes (record { offset = length blocks; size = length (finished_block block) })) ∷ []) key
-            ∙ ap (λ (l : List ℕ). index_pairs 0 closed ++ (last_key [] group, l) ∷ []) value
-            ∙ sym (index_more 0 closed group))
+          ∙ ap (λ (l : List ℕ). index_pairs 0 closed ++ (last_key [] group, l) ∷ []) value
+          ∙ sym (index_more 0 closed group))
           (holds_more index (index_pairs 0 closed) block.last (handle_bytes (record { offset = length blocks; size = length (finished_block block) })) x);
     }
 

@@ -1,14 +1,14 @@
 -- What holds where a step of reading gives a value.
-use Rattle.std.proofs.Common.{◌≡◌, ◌≢◌, ℕ, ◌+◌, ◌-◌, ◌≤◌, Bool, true, false, cond, eqb, leb, ltb, ◌&&◌, ◌||◌, List, [], ◌∷◌, length, Option, Some, None, Result, Ok, Err, refl, sym, ap, subst, ◌∙◌, arith}
-use Rattle.std.specs.Prelude.{not, option_and_then, option_map, IfSome}
+use Rattle.std.proofs.Common.{◌≡◌, ℕ, ◌+◌, ◌-◌, ◌≤◌, Bool, true, false, cond, eqb, ltb, List, length, Option, Some, None, Result, Ok, Err, refl, sym, ap, subst, ◌∙◌}
+use Rattle.std.specs.Prelude.{not, option_and_then, IfSome}
 use Rattle.std.specs.Option.{is_some}
-use Rattle.std.proofs.lemmas.Bool.{eqb-true, eq-eqb, ltb-false, leb-true, le-leb, le-ltb, and_parts, and_from}
+use Rattle.std.proofs.lemmas.Bool.{eqb-true, eq-eqb, ltb-false, leb-true, le-leb, le-ltb}
 use Rattle.st_base.proofs.Same.{same_true, same_self}
 use Rattle.st_base.specs.Bytes.{same}
 use Rattle.st_base.specs.declared.faults.BlockFault.{BlockFault}
 use Rattle.st_base.specs.declared.faults.TableFault.{TableFault}
-use Rattle.st_base.specs.declared.faults.TableFault.TheVariants.{Block, Checksum, Comparator, Compressed, ExternalVersion, IndexKind, Magic, NoProperties, RangeDel, Short, Sum, TooLarge, Version, Handle as HandleFault}
-use Rattle.st_block.specs.Block.{Cell, block_of, end_of}
+use Rattle.st_base.specs.declared.faults.TableFault.TheVariants.{Checksum, Comparator, Compressed, ExternalVersion, IndexKind, Magic, RangeDel, Short, Sum, TooLarge, Version, Handle as HandleFault}
+use Rattle.st_block.specs.Block.{Cell, block_of, end_of, restarts_of}
 use Rattle.st_block.specs.Place.{Contents}
 use Rattle.st_block.specs.declared.kind.BlockKind.{BlockKind}
 use Rattle.st_table.specs.Footer.{checksum_of, exactly, footer_handle, footer_of, greatest_size, handle_at, handles_of, lies, lying, magic, magic_of, value_handle, version_of}
@@ -120,22 +120,22 @@ unfolding footer_of handles_of
 ok_footer kind bytes footer size is ml il =
     skip (ltb (greatest_size kind) (length bytes)) TooLarge _ footer (le-ltb _ _ size)
     (skip (ltb (length bytes) 53) Short _ footer (le-ltb _ _ is.long)
-      (skip (not (eqb (magic_of bytes) magic)) Magic _ footer (true_not _ (eq-eqb _ _ is.magic_is))
-        (skip (not (eqb (version_of bytes) 2)) (Version (version_of bytes)) _ footer (true_not _ (eq-eqb _ _ is.version_is))
-          (skip (not (eqb (checksum_of bytes) 1)) (Checksum (checksum_of bytes)) _ footer (true_not _ (eq-eqb _ _ is.checksum_is))
-            (ok_bind (footer_handle bytes (length bytes - 52)) _ (footer.metaindex, is.index_at) footer (here (length bytes - 52) (footer.metaindex, is.index_at) is.metaindex_is ml)
-              (ok_bind (footer_handle bytes is.index_at) _ (footer.index, is.behind) footer (here is.index_at (footer.index, is.behind) is.index_is il) refl))))))
+    (skip (not (eqb (magic_of bytes) magic)) Magic _ footer (true_not _ (eq-eqb _ _ is.magic_is))
+    (skip (not (eqb (version_of bytes) 2)) (Version (version_of bytes)) _ footer (true_not _ (eq-eqb _ _ is.version_is))
+    (skip (not (eqb (checksum_of bytes) 1)) (Checksum (checksum_of bytes)) _ footer (true_not _ (eq-eqb _ _ is.checksum_is))
+    (ok_bind (footer_handle bytes (length bytes - 52)) _ (footer.metaindex, is.index_at) footer (here (length bytes - 52) (footer.metaindex, is.index_at) is.metaindex_is ml)
+    (ok_bind (footer_handle bytes is.index_at) _ (footer.index, is.behind) footer (here is.index_at (footer.index, is.behind) is.index_is il) refl))))))
   where
     here : (at : ℕ) (found : Handle × ℕ) → handle_at bytes at ≡ Some found → lies bytes found.0 ≡ true → footer_handle bytes at ≡ Ok found
     here at found e l = ap (lying bytes at) e ∙ ap (λ (t : Bool). cond t (Ok found) (Err (HandleFault at))) l
 
 -- ---- a stored block
 
-opened_ok : (kind : BlockKind) (at : ℕ) (text : List ℕ) (r : Result (List Cell) BlockFault) (block : Contents) → opened kind at text r ≡ Ok block → (r ≡ Ok block.cells) × (block.end ≡ end_of text) × (block.kind ≡ kind)
+opened_ok : (kind : BlockKind) (at : ℕ) (text : List ℕ) (r : Result (List Cell) BlockFault) (block : Contents) → opened kind at text r ≡ Ok block → (r ≡ Ok block.cells) × (block.end ≡ end_of text) × (block.kind ≡ kind) × (block.restarts ≡ restarts_of text)
 opened_ok kind at text (Err fault) block e = absurd cc
 opened_ok kind at text (Ok cells) block e =
-    let same : (let c : Contents = record { kind = kind; end = end_of text; cells = cells } in c) ≡ block = is_ok_same _ block e in
-    (ap (λ (c : Contents). Ok c.cells) same, sym (ap (λ (c : Contents). c.end) same), sym (ap (λ (c : Contents). c.kind) same))
+    let same : (let c : Contents = record { kind = kind; end = end_of text; cells = cells; restarts = restarts_of text } in c) ≡ block = is_ok_same _ block e in
+    (ap (λ (c : Contents). Ok c.cells) same, sym (ap (λ (c : Contents). c.end) same), sym (ap (λ (c : Contents). c.kind) same), sym (ap (λ (c : Contents). c.restarts) same))
 
 pub block_at_ok : (kind : BlockKind) (bytes : List ℕ) (handle : Handle) (block : Contents) → lies bytes handle ≡ true → block_at kind bytes handle ≡ Ok block → IsStored bytes kind handle block
 unfolding block_at
@@ -143,16 +143,17 @@ block_at_ok kind bytes handle block l e =
     let a = guard_ok (not (eqb (compression bytes handle) 0)) (Compressed handle.offset) _ block e in
     let b = guard_ok (not (eqb (stored_sum bytes handle) (found_sum bytes handle))) (Sum handle.offset (stored_sum bytes handle) (found_sum bytes handle)) _ block a.1 in
     let o = opened_ok kind handle.offset (contents_at bytes handle) (block_of kind (contents_at bytes handle)) block b.1 in
-    record { inside = leb-true _ _ l; uncompressed = eqb-true _ _ (not_false _ a.0); sum = eqb-true _ _ (not_false _ b.0); cells_are = o.0; end_is = o.1; kind_is = o.2 }
+    record { inside = leb-true _ _ l; uncompressed = eqb-true _ _ (not_false _ a.0); sum = eqb-true _ _ (not_false _ b.0); cells_are = o.0; end_is = o.1; kind_is = o.2; restarts_are = o.3 }
 
 pub ok_block_at : (kind : BlockKind) (bytes : List ℕ) (handle : Handle) (block : Contents) → IsStored bytes kind handle block → block_at kind bytes handle ≡ Ok block
 unfolding block_at
 ok_block_at kind bytes handle block is =
     skip (not (eqb (compression bytes handle) 0)) (Compressed handle.offset) _ block (true_not _ (eq-eqb _ _ is.uncompressed))
     (skip (not (eqb (stored_sum bytes handle) (found_sum bytes handle))) (Sum handle.offset (stored_sum bytes handle) (found_sum bytes handle)) _ block (true_not _ (eq-eqb _ _ is.sum))
-      (ap (opened kind handle.offset (contents_at bytes handle)) is.cells_are
-        ∙ ap (λ (n : ℕ). let r : Result Contents TableFault = Ok (record { kind = kind; end = n; cells = block.cells }) in r) (sym is.end_is)
-        ∙ ap (λ (k : BlockKind). let r : Result Contents TableFault = Ok (record { kind = k; end = block.end; cells = block.cells }) in r) (sym is.kind_is)))
+    (ap (opened kind handle.offset (contents_at bytes handle)) is.cells_are
+    ∙ ap (λ (n : ℕ). let r : Result Contents TableFault = Ok (record { kind = kind; end = n; cells = block.cells; restarts = restarts_of (contents_at bytes handle) }) in r) (sym is.end_is)
+    ∙ ap (λ (l : List ℕ). let r : Result Contents TableFault = Ok (record { kind = kind; end = block.end; cells = block.cells; restarts = l }) in r) (sym is.restarts_are)
+    ∙ ap (λ (k : BlockKind). let r : Result Contents TableFault = Ok (record { kind = k; end = block.end; cells = block.cells; restarts = block.restarts }) in r) (sym is.kind_is)))
 
 pub stored_lies : (bytes : List ℕ) (kind : BlockKind) (handle : Handle) (block : Contents) → IsStored bytes kind handle block → lies bytes handle ≡ true
 stored_lies bytes kind handle block is = le-leb _ _ is.inside

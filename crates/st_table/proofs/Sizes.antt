@@ -1,6 +1,6 @@
 -- How long what is written is.
-use Rattle.std.proofs.Common.{◌≡◌, ℕ, zero, suc, ◌+◌, ◌-◌, ◌*◌, ◌/◌, ◌%◌, ◌^◌, ◌<◌, ◌≤◌, Bool, true, false, cond, eqb, leb, ltb, List, [], ◌∷◌, ◌++◌, length, refl, sym, ap, ◌∙◌, arith}
-use Rattle.std.specs.Prelude.{replicate, max}
+use Rattle.std.proofs.Common.{◌≡◌, ℕ, zero, suc, ◌+◌, ◌-◌, ◌*◌, ◌/◌, ◌%◌, ◌^◌, ◌<◌, ◌≤◌, Bool, true, false, cond, eqb, leb, ltb, List, [], ◌∷◌, ◌++◌, length, refl, ap, arith}
+use Rattle.std.specs.Prelude.{replicate}
 use Rattle.std.proofs.lemmas.List.{length-append}
 use Rattle.std.proofs.lemmas.Bool.{ne_eqb}
 use Rattle.st_base.specs.declared.entry.Entry.{Entry}
@@ -8,10 +8,10 @@ use Rattle.st_code.specs.Crc.{crc32c, mask}
 use Rattle.st_code.specs.Fixed.{fixed32, fixed64}
 use Rattle.st_code.specs.Varint.{shortest, varint}
 use Rattle.st_block.proofs.Writers.{entry_length, tail_length}
-use Rattle.st_block.specs.Written.{Writing, added as added_to_block, entries_bytes, entry_bytes, finished as finished_block, or_zero, restarts_of, shared_of, with_tail, written_block}
+use Rattle.st_block.specs.Written.{Writing, added as added_to_block, entries_bytes, entry_bytes, finished as finished_block, restarts_of, shared_of, written_block}
 use Rattle.st_table.specs.Footer.{greatest_size, magic}
 use Rattle.st_table.specs.Metaindex.{properties_name}
-use Rattle.st_table.specs.Written.{Pair, Writer, added, ending, ending_from, finished, finished_with, footer_bytes, handle_bytes, indexed_block, internal_key, metaindex_block, padded, properties_block, property_pairs, stored, table_bytes, value_under, with_closed, with_open}
+use Rattle.st_table.specs.Written.{Pair, Writer, added, ending, finished, finished_with, footer_bytes, handle_bytes, indexed_block, internal_key, metaindex_block, padded, properties_block, property_pairs, stored, table_bytes, value_under, with_closed, with_open}
 use Rattle.st_table.specs.declared.handle.Handle.{Handle}
 use Rattle.st_table.specs.declared.kind.TableKind.{TableKind}
 use Rattle.st_table.specs.declared.kind.TableKind.TheVariants.{External, Own}
@@ -68,14 +68,14 @@ stored_length contents = omega (arith, length-append contents (0 ∷ fixed32 (ma
 pub handle_short : (handle : Handle) → length (handle_bytes handle) ≤ 20
 handle_short handle = omega (arith, length-append (varint handle.offset) (varint handle.size), varint_short handle.offset, varint_short handle.size)
 
-zeros_length : (n : ℕ) → length {A = ℕ} (replicate n 0) ≡ n
+pub zeros_length : (n : ℕ) → length {A = ℕ} (replicate n 0) ≡ n
 zeros_length zero = refl
 zeros_length (suc n) = ap suc (zeros_length n)
 
 padded_length : (bytes : List ℕ) → length bytes ≤ 41 → length (padded bytes) ≡ 41
 padded_length bytes le = omega (arith, length-append bytes (replicate (41 - length bytes) 0), zeros_length (41 - length bytes))
 
-head_short : (metaindex index : Handle) → length (1 ∷ handle_bytes metaindex ++ handle_bytes index) ≤ 41
+pub head_short : (metaindex index : Handle) → length (1 ∷ handle_bytes metaindex ++ handle_bytes index) ≤ 41
 head_short metaindex index = omega (arith, length-append (1 ∷ handle_bytes metaindex) (handle_bytes index), handle_short metaindex, handle_short index)
 
 pub footer_length : (metaindex index : Handle) → length (footer_bytes metaindex index) ≡ 53

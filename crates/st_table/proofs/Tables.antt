@@ -1,7 +1,7 @@
 -- A table is read exactly where its places are those of a table.
-use Rattle.std.proofs.Common.{◌≡◌, ◌≢◌, ℕ, zero, suc, ◌+◌, ◌-◌, ◌≤◌, Bool, true, false, cond, eqb, leb, ltb, ◌&&◌, ◌||◌, List, [], ◌∷◌, ◌++◌, length, Option, Some, None, Result, Ok, Err, Ordering, Less, Equal, Greater, refl, sym, ap, subst, ◌∙◌, append_assoc, arith}
-use Rattle.std.specs.Prelude.{not, slice_get, map, IfSome}
-use Rattle.std.specs.List.{AllByRecursion, flat_map}
+use Rattle.std.proofs.Common.{◌≡◌, ℕ, zero, suc, ◌+◌, Bool, true, false, cond, eqb, ltb, ◌||◌, List, [], ◌∷◌, ◌++◌, length, Option, Some, None, Result, Ok, Err, Ordering, Less, Equal, Greater, refl, sym, ap, subst, ◌∙◌, append_assoc, arith}
+use Rattle.std.specs.Prelude.{not, IfSome}
+use Rattle.std.specs.List.{AllByRecursion}
 use Rattle.std.specs.Ordering.{is_le, is_lt, nat_cmp, ordering_then}
 use Rattle.std.proofs.lemmas.Bool.{and_parts, and_from, le-ltb, ne_eqb, eqb-true, false≢true}
 use Rattle.std.proofs.lemmas.List.{append-nil, map-append}
@@ -16,8 +16,8 @@ use Rattle.st_block.specs.Place.{Contents}
 use Rattle.st_block.specs.declared.kind.BlockKind.TheVariants.{Data, Index, Plain}
 use Rattle.st_table.specs.DataBlocks.{data_of, first_key, last_key, parted, parts, with_block, with_blocks}
 use Rattle.st_table.specs.Entries.{entry_fault, entry_under, is_behind, is_kind, kind_of, last_entry, may_have, number_of, with_entries, with_entry}
-use Rattle.st_table.specs.Footer.{footer_of, lies, value_handle}
-use Rattle.st_table.specs.IsTable.{AreBlocks, AreDataBlocks, Blocks, IsDataBlock, IsEntry, IsTable, entries_under, joined}
+use Rattle.st_table.specs.Footer.{footer_of, value_handle}
+use Rattle.st_table.specs.IsTable.{AreDataBlocks, IsDataBlock, IsEntry, IsTable, entries_under, joined}
 use Rattle.st_table.specs.Metaindex.{properties_handle, value_place}
 use Rattle.st_table.specs.Properties.{properties_fault}
 use Rattle.st_table.specs.Steps.{◌>>=◌, Fails, unless}
@@ -25,11 +25,9 @@ use Rattle.st_table.specs.Stored.{block_at}
 use Rattle.st_table.specs.Table.{IsFirstFault, fault_of, first_fault, keys_rise, table_of}
 use Rattle.st_table.specs.declared.fault.OpenTableFault.{OpenTableFault}
 use Rattle.st_table.specs.declared.fault.OpenTableFault.TheVariants.{Bad, OutOfMemory}
-use Rattle.st_table.specs.declared.footer.Footer.{Footer}
-use Rattle.st_table.specs.declared.handle.Handle.{Handle}
 use Rattle.st_table.specs.declared.kind.TableKind.{TableKind}
 use Rattle.st_table.specs.declared.kind.TableKind.TheVariants.{External}
-use Rattle.st_table.proofs.Behind.{Passes, last_more, order_more, passes_of}
+use Rattle.st_table.proofs.Behind.{last_more, order_more, passes_of}
 use Rattle.st_table.proofs.Inverse.{bind_ok, block_at_ok, either_ok, footer_ok, is_ok_same, names_ok, ok_bind, ok_block_at, ok_footer, ok_names, ok_properties, ok_value_handle, properties_ok, stored_lies, true_not, unless_ok, value_handle_ok}
 
 -- ---- entries
@@ -49,7 +47,7 @@ no_fault_of kind place before cell is behind =
     inner false false false true e f g h = absurd cc
 
 -- entries in order, up to one of them and from one of them on
-behind_in : (front : List Entry) (e : Entry) (rest : List Entry) → in_order (front ++ e ∷ rest) ≡ true → is_behind (last_entry front) e.key e.number ≡ true
+pub behind_in : (front : List Entry) (e : Entry) (rest : List Entry) → in_order (front ++ e ∷ rest) ≡ true → is_behind (last_entry front) e.key e.number ≡ true
 behind_in [] e rest h = refl
 behind_in (x ∷ []) e rest h = (and_parts (comes_before x e) (rises_behind comes_before e rest) h).0
 behind_in (x ∷ y ∷ ys) e rest h =
@@ -133,8 +131,8 @@ ok_with_block kind bytes at block before cell front b is fit o =
     let entries = front ++ entries_under b.cells in
     ok_bind (value_handle bytes at cell.value) _ is.handle entries (ok_value_handle bytes at cell.value is.handle is.handle_is (stored_lies bytes Data is.handle b is.stored))
     (ok_bind (block_at Data bytes is.handle) _ b entries (ok_block_at Data bytes is.handle b is.stored)
-      (ok_bind (with_entries kind front b.cells) _ entries entries (ok_with_entries kind b.cells front fit o)
-        (ap (λ (t : Bool). parted t block entries) (parts_joined block before b.cells cell.key is.behind_last is.before_first))))
+    (ok_bind (with_entries kind front b.cells) _ entries entries (ok_with_entries kind b.cells front fit o)
+    (ap (λ (t : Bool). parted t block entries) (parts_joined block before b.cells cell.key is.behind_last is.before_first))))
 
 all_append : {A : Type 0} (P : A → Type 0) (xs ys : List A) → AllByRecursion P xs → AllByRecursion P ys → AllByRecursion P (xs ++ ys)
 all_append P [] ys h g = g
@@ -155,12 +153,13 @@ with_blocks_ok kind bytes at end [] block before front entries o e =
 with_blocks_ok kind bytes at end (cell ∷ cells) block before front entries o e =
     let b = bind_ok (with_block kind bytes (at + value_place end cell cells) block before cell.key cell.value front) (λ (l : List Entry). with_blocks kind bytes at end (block + 1) cell.key cells l) entries e in
     let w = with_block_ok kind bytes (at + value_place end cell cells) block before cell front b.0 o b.1 in
-    let r = with_blocks_ok kind bytes at end cells (block + 1) cell.key b.0 entries w.4 b.2 in
-    (w.0 ∷ r.0,
+    let r = with_blocks_ok kind bytes at end cells (block + 1) cell.key b.0 entries w.4 b.2 in (
+      w.0 ∷ r.0,
       (w.1, subst (λ (p : Option (List ℕ)). AreDataBlocks bytes p cells r.0) (prior_more block cell.key) r.1),
       all_append (IsEntry kind) w.0.cells (joined r.0) w.2 r.2,
       r.3 ∙ ap (λ (l : List Entry). l ++ entries_under (joined r.0)) w.3 ∙ append_assoc front (entries_under w.0.cells) (entries_under (joined r.0)) ∙ ap (λ (l : List Entry). front ++ l) (sym (map-append under w.0.cells (joined r.0))),
-      r.4)
+      r.4,
+    )
 
 ok_with_blocks : (kind : TableKind) (bytes : List ℕ) (at end : ℕ) (cells : List Cell) (blocks : List Contents) (block : ℕ) (before : List ℕ) (front : List Entry) → AreDataBlocks bytes (prior block before) cells blocks → AllByRecursion (IsEntry kind) (joined blocks)
     → in_order (front ++ entries_under (joined blocks)) ≡ true → with_blocks kind bytes at end block before cells front ≡ Ok (front ++ entries_under (joined blocks))
@@ -176,7 +175,7 @@ ok_with_blocks kind bytes at end (cell ∷ cells) (b ∷ blocks) block before fr
     ok_bind (with_block kind bytes (at + value_place end cell cells) block before cell.key cell.value front) (λ (l : List Entry). with_blocks kind bytes at end (block + 1) cell.key cells l) (front ++ here) (front ++ entries_under (joined (b ∷ blocks)))
     (ok_with_block kind bytes (at + value_place end cell cells) block before cell front b are.0 f.0 (order_front (front ++ here) rest order))
     (ok_with_blocks kind bytes at end cells blocks (block + 1) cell.key (front ++ here) (subst (λ (p : Option (List ℕ)). AreDataBlocks bytes p cells blocks) (sym (prior_more block cell.key)) are.1) f.1 order
-      ∙ ap (λ (l : List Entry). let r : Result (List Entry) TableFault = Ok l in r) whole)
+    ∙ ap (λ (l : List Entry). let r : Result (List Entry) TableFault = Ok l in r) whole)
 
 -- ---- the table
 
@@ -191,8 +190,8 @@ table_is bytes kind entries e =
     let i = bind_ok (block_at Index bytes f.0.index) _ entries u.1 in
     let footer = footer_ok kind bytes f.0 f.1 in
     let names = names_ok bytes f.0.metaindex.offset m.0 h.0 h.1 in
-    let d = with_blocks_ok kind bytes f.0.index.offset i.0.end i.0.cells 0 [] [] entries refl i.2 in
-    (record { footer = f.0; metaindex = m.0; properties_handle = h.0; properties = p.0; index = i.0; data_blocks = d.0 },
+    let d = with_blocks_ok kind bytes f.0.index.offset i.0.end i.0.cells 0 [] [] entries refl i.2 in (
+      record { footer = f.0; metaindex = m.0; properties_handle = h.0; properties = p.0; index = i.0; data_blocks = d.0 },
       record {
         size = footer.0;
         footer = footer.1;
@@ -205,7 +204,8 @@ table_is bytes kind entries e =
         fit = d.2;
         entries_are = d.3;
         ordered = d.4;
-      })
+      },
+    )
 
 pub is_table : (bytes : List ℕ) (kind : TableKind) (entries : List Entry) → IsTable bytes kind entries → table_of kind bytes ≡ Ok entries
 unfolding table_of
@@ -215,11 +215,11 @@ is_table bytes kind entries t =
     let data' = ok_with_blocks kind bytes b.footer.index.offset b.index.end b.index.cells b.data_blocks 0 [] [] a.data_blocks a.fit (sym (ap in_order a.entries_are) ∙ a.ordered) in
     ok_bind (footer_of kind bytes) _ b.footer entries (ok_footer kind bytes b.footer a.size a.footer (stored_lies bytes Plain b.footer.metaindex b.metaindex a.metaindex) (stored_lies bytes Index b.footer.index b.index a.index))
     (ok_bind (block_at Plain bytes b.footer.metaindex) _ b.metaindex entries (ok_block_at Plain bytes b.footer.metaindex b.metaindex a.metaindex)
-      (ok_bind (properties_handle bytes b.footer.metaindex.offset b.metaindex) _ b.properties_handle entries (ok_names bytes b.footer.metaindex.offset b.metaindex b.properties_handle a.names (stored_lies bytes Plain b.properties_handle b.properties a.properties))
-        (ok_bind (block_at Plain bytes b.properties_handle) _ b.properties entries (ok_block_at Plain bytes b.properties_handle b.properties a.properties)
-          (ap (λ (o : Option TableFault). unless o (block_at Index bytes b.footer.index >>= data_of kind bytes b.footer.index.offset)) (ok_properties kind b.properties a.values)
-            ∙ ok_bind (block_at Index bytes b.footer.index) (data_of kind bytes b.footer.index.offset) b.index entries (ok_block_at Index bytes b.footer.index b.index a.index)
-            (data' ∙ ap (λ (l : List Entry). let r : Result (List Entry) TableFault = Ok l in r) (sym a.entries_are))))))
+    (ok_bind (properties_handle bytes b.footer.metaindex.offset b.metaindex) _ b.properties_handle entries (ok_names bytes b.footer.metaindex.offset b.metaindex b.properties_handle a.names (stored_lies bytes Plain b.properties_handle b.properties a.properties))
+    (ok_bind (block_at Plain bytes b.properties_handle) _ b.properties entries (ok_block_at Plain bytes b.properties_handle b.properties a.properties)
+    (ap (λ (o : Option TableFault). unless o (block_at Index bytes b.footer.index >>= data_of kind bytes b.footer.index.offset)) (ok_properties kind b.properties a.values)
+    ∙ ok_bind (block_at Index bytes b.footer.index) (data_of kind bytes b.footer.index.offset) b.index entries (ok_block_at Index bytes b.footer.index b.index a.index)
+    (data' ∙ ap (λ (l : List Entry). let r : Result (List Entry) TableFault = Ok l in r) (sym a.entries_are))))))
 
 -- ---- the first fault
 

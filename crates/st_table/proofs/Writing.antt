@@ -1,17 +1,14 @@
 -- What a writer of a table keeps.
-use Rattle.std.proofs.Common.{◌≡◌, ℕ, zero, suc, ◌+◌, ◌-◌, ◌*◌, ◌^◌, ◌<◌, ◌≤◌, Bool, true, false, cond, eqb, leb, List, [], ◌∷◌, ◌++◌, length, take, refl, sym, ap, subst, ◌∙◌, arith}
-use Rattle.std.specs.List.{flat_map}
+use Rattle.std.proofs.Common.{◌≡◌, ℕ, ◌+◌, ◌^◌, ◌<◌, ◌≤◌, Bool, true, false, cond, eqb, leb, List, [], ◌++◌, length, take, sym, ap, subst, ◌∙◌, arith}
 use Rattle.std.specs.Prelude.{IsTrue, ◌↔◌}
 use Rattle.std.proofs.lemmas.Bool.{ne_eqb, leb-true, leb-false, false≢true}
 use Rattle.st_base.specs.declared.entry.Entry.{Entry}
 use Rattle.std.proofs.lemmas.List.{length-append}
 use Rattle.std.proofs.Math.Seq.{take-append_seam}
-use Rattle.st_code.specs.Fixed.{fixed32}
 use Rattle.st_block.proofs.Writers.{entry_some, finished_long, tail_length}
 use Rattle.st_block.specs.Written.{Writing, added as added_to_block, entry_bytes, finished as finished_block, shared_of, Holds as BlockHolds}
 use Rattle.st_table.specs.Footer.{greatest_size}
 use Rattle.st_table.specs.Written.{IsWriter, Writer, added, ending, internal_key, value_under, finished, finished_with, handle_bytes, indexed_block, no_entries, stored, table_bytes, with_closed, with_open}
-use Rattle.st_table.specs.declared.handle.Handle.{Handle}
 use Rattle.st_table.specs.declared.kind.TableKind.{TableKind}
 use Rattle.st_table.specs.declared.kind.TableKind.TheVariants.{External, Own}
 use Rattle.st_table.proofs.Sizes.{ending_short, finished_added, finished_either, parts_short, stored_length, table_length, limit_short}

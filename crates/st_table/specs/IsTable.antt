@@ -4,7 +4,7 @@ use Rattle.std.specs.List.{AllByRecursion, flat_map}
 use Rattle.std.specs.Ordering.{is_lt, is_le}
 use Rattle.st_base.specs.Order.{in_order}
 use Rattle.st_base.specs.declared.entry.Entry.{Entry}
-use Rattle.st_block.specs.Block.{Cell, block_of, end_of}
+use Rattle.st_block.specs.Block.{Cell, block_of, end_of, restarts_of}
 use Rattle.st_block.specs.InternalKey.{internal_cmp}
 use Rattle.st_block.specs.Place.{Contents}
 use Rattle.st_block.specs.declared.kind.BlockKind.{BlockKind}
@@ -39,6 +39,7 @@ pub record IsStored (bytes : List ℕ) (kind : BlockKind) (handle : Handle) (blo
   pub cells_are : block_of kind (contents_at bytes handle) ≡ Ok block.cells
   pub end_is : block.end ≡ end_of (contents_at bytes handle)
   pub kind_is : block.kind ≡ kind
+  pub restarts_are : block.restarts ≡ restarts_of (contents_at bytes handle)
 
 -- the metaindex has no range deletions, and the handle of the properties as a whole value
 pub record IsMetaindex (metaindex : Contents) (properties : Handle) : Type 0 where

@@ -1,6 +1,8 @@
 -- How a table is written: data blocks, index, properties, metaindex, footer, with nothing between.
 use Rattle.std.specs.Prelude.{◌≡◌, ℕ, ◌+◌, ◌-◌, ◌*◌, ◌^◌, ◌<◌, ◌≤◌, nat_le, ◌==◌, List, [], ◌∷◌, ◌++◌, length, map, fold, replicate, codes, IsTrue, if◌then◌else◌}
-use Rattle.std.specs.List.{flat_map}
+use Rattle.std.specs.List.{AllByRecursion, flat_map}
+use Rattle.st_base.specs.Order.{in_order}
+use Rattle.st_base.specs.Rows.{Fits}
 use Rattle.st_base.specs.declared.entry.Entry.{Entry}
 use Rattle.st_base.specs.declared.entry.Mark.{Mark}
 use Rattle.st_base.specs.declared.entry.Mark.TheVariants.{Put, Gone}
@@ -8,6 +10,7 @@ use Rattle.st_code.specs.Crc.{crc32c, mask}
 use Rattle.st_code.specs.Fixed.{fixed32, fixed64}
 use Rattle.st_code.specs.Varint.{varint}
 use Rattle.st_block.specs.Written.{Writing, added as added_to_block, entries_bytes, finished as finished_block, last_key, written_block, Holds as BlockHolds}
+use Rattle.st_table.specs.Entries.{may_have}
 use Rattle.st_table.specs.Footer.{greatest_size, magic}
 use Rattle.st_table.specs.Metaindex.{properties_name}
 use Rattle.st_table.specs.Properties.{bytewise, comparator_name, version_name}
@@ -190,6 +193,19 @@ pub record HoldsCut (writer : Writer) (entries : ℕ) (cut : Cut) : Type 0 where
 -- these entries were added
 abbrev pub Holds : Writer → List Entry → Type 0
 Holds writer entries = HoldsCut writer (length entries) (cut_of (map pair_of entries))
+
+-- ---- what may be written
+
+-- an entry is within the limits, and its sequence number is one that a table of this kind may have
+pub record MayPut (kind : TableKind) (entry : Entry) : Type 0 where
+  pub limits : Fits entry
+  pub number : entry.number < 2 ^ 56
+  pub allowed : IsTrue (may_have kind entry.number)
+
+-- entries in strict order, each of which may be written
+pub record MayBeTable (kind : TableKind) (entries : List Entry) : Type 0 where
+  pub ordered : IsTrue (in_order entries)
+  pub each : AllByRecursion (MayPut kind) entries
 
 -- what a writer keeps: the finished table is within the limit of its kind, and counts fit 64 bits
 pub record IsWriter (writer : Writer) : Type 0 where

@@ -13,6 +13,7 @@ mod find;
 mod footer;
 mod handle;
 mod kind;
+mod laws;
 mod metaindex;
 mod properties;
 mod stored;
@@ -21,10 +22,9 @@ mod table;
 #[cfg(test)]
 mod tests;
 mod writer;
-mod laws;
 
 pub use fault::OpenTableFault;
 pub use kind::TableKind;
-pub use laws::{table_or_first_fault, table_writer_holds_what_is_added};
+pub use laws::{table_or_first_fault, table_writer_holds_what_is_added, written_table_opens};
 pub use table::Table;
 pub use writer::{AddFault, TableWriter};

@@ -1,4 +1,4 @@
-use crate::{AddFault, OpenTableFault, Table, TableKind, TableWriter};
+use crate::{AddFault, OpenTableFault, Table, TableKind, TableWriter, table_or_first_fault};
 use st_base::{
     BlockFault, Bytes, EntryRef, KEY_BYTES, MarkRef, Rows, Scratch, TableFault, VALUE_BYTES,
 };
@@ -44,13 +44,13 @@ type Case = (
 
 // What is put at a place of that table, the block's sum that is made new at another, and the fault that is found.
 static CASES: [Case; 26] = [
-    // nothing changed.
+    // Nothing changed.
     (0, b"", 0, b"", TableKind::External, None),
-    // the same bytes as an own table.
+    // The same bytes as an own table.
     (0, b"", 0, b"", TableKind::Own, None),
-    // padding of the footer.
+    // Padding of the footer.
     (290, b"U", 0, b"", TableKind::External, None),
-    // magic number.
+    // Magic number.
     (
         326,
         b"\x87",
@@ -59,7 +59,7 @@ static CASES: [Case; 26] = [
         TableKind::External,
         Some(TableFault::Magic),
     ),
-    // version.
+    // Version.
     (
         315,
         b"\x03",
@@ -68,7 +68,7 @@ static CASES: [Case; 26] = [
         TableKind::External,
         Some(TableFault::Version(3)),
     ),
-    // checksum type.
+    // Checksum type.
     (
         274,
         b"\x04",
@@ -77,7 +77,7 @@ static CASES: [Case; 26] = [
         TableKind::External,
         Some(TableFault::Checksum(4)),
     ),
-    // metaindex handle points out of the file.
+    // Metaindex handle points out of the file.
     (
         276,
         b"\xff",
@@ -86,7 +86,7 @@ static CASES: [Case; 26] = [
         TableKind::External,
         Some(TableFault::Handle(275)),
     ),
-    // index handle reaches into the footer.
+    // Index handle reaches into the footer.
     (
         278,
         b"\x1a\xf4\x01",
@@ -95,7 +95,7 @@ static CASES: [Case; 26] = [
         TableKind::External,
         Some(TableFault::Handle(278)),
     ),
-    // compression type.
+    // Compression type.
     (
         21,
         b"\x01",
@@ -104,7 +104,7 @@ static CASES: [Case; 26] = [
         TableKind::External,
         Some(TableFault::Compressed(0)),
     ),
-    // value.
+    // Value.
     (
         12,
         b"2",
@@ -117,7 +117,7 @@ static CASES: [Case; 26] = [
             found: 2004322086,
         }),
     ),
-    // restart count.
+    // Restart count.
     (
         17,
         b"\xff\xff\xff\xff",
@@ -126,7 +126,7 @@ static CASES: [Case; 26] = [
         TableKind::External,
         Some(TableFault::Block(0, BlockFault::Restarts)),
     ),
-    // range deletions.
+    // Range deletions.
     (
         237,
         b"\x00\x11\x04rocksdb.range_del",
@@ -135,7 +135,7 @@ static CASES: [Case; 26] = [
         TableKind::External,
         Some(TableFault::RangeDel),
     ),
-    // no properties.
+    // No properties.
     (
         257,
         b"S",
@@ -144,7 +144,7 @@ static CASES: [Case; 26] = [
         TableKind::External,
         Some(TableFault::NoProperties),
     ),
-    // properties handle has a byte behind it.
+    // Properties handle has a byte behind it.
     (
         258,
         b"53\x00",
@@ -153,7 +153,7 @@ static CASES: [Case; 26] = [
         TableKind::External,
         Some(TableFault::Handle(258)),
     ),
-    // external version 1.
+    // External version 1.
     (
         185,
         b"\x01",
@@ -162,9 +162,9 @@ static CASES: [Case; 26] = [
         TableKind::External,
         Some(TableFault::ExternalVersion(Some(1))),
     ),
-    // external version 1 of an own table.
+    // External version 1 of an own table.
     (185, b"\x01", 233, b"\x09i\xfa\x05", TableKind::Own, None),
-    // no external version.
+    // No external version.
     (
         184,
         b"m",
@@ -173,7 +173,7 @@ static CASES: [Case; 26] = [
         TableKind::External,
         Some(TableFault::ExternalVersion(None)),
     ),
-    // comparator.
+    // Comparator.
     (
         74,
         b"L",
@@ -182,7 +182,7 @@ static CASES: [Case; 26] = [
         TableKind::External,
         Some(TableFault::Comparator),
     ),
-    // index type of eight bytes.
+    // Index type of eight bytes.
     (
         53,
         b"\x00$\x08rocksdb.block.based.table.index.type\x00\x00\x00\x00\x00\x00\x00\x00",
@@ -191,7 +191,7 @@ static CASES: [Case; 26] = [
         TableKind::External,
         Some(TableFault::IndexKind),
     ),
-    // index key before the last key.
+    // Index key before the last key.
     (
         29,
         b"`",
@@ -200,7 +200,7 @@ static CASES: [Case; 26] = [
         TableKind::External,
         Some(TableFault::Index(0)),
     ),
-    // index key of number 2^56-1 and kind 22.
+    // Index key of number 2^56-1 and kind 22.
     (
         29,
         b"b\x16\xff\xff\xff\xff\xff\xff\xff",
@@ -209,7 +209,7 @@ static CASES: [Case; 26] = [
         TableKind::External,
         None,
     ),
-    // data handle doesn't parse.
+    // Data handle doesn't parse.
     (
         38,
         b"\xff\xff",
@@ -218,7 +218,7 @@ static CASES: [Case; 26] = [
         TableKind::External,
         Some(TableFault::Handle(38)),
     ),
-    // kind 2.
+    // Kind 2.
     (
         4,
         b"\x02",
@@ -227,7 +227,7 @@ static CASES: [Case; 26] = [
         TableKind::External,
         Some(TableFault::Kind(0, 2)),
     ),
-    // tombstone with a value.
+    // Tombstone with a value.
     (
         4,
         b"\x00",
@@ -236,7 +236,7 @@ static CASES: [Case; 26] = [
         TableKind::External,
         Some(TableFault::Kind(0, 0)),
     ),
-    // number 1.
+    // Number 1.
     (
         5,
         b"\x01",
@@ -245,7 +245,7 @@ static CASES: [Case; 26] = [
         TableKind::External,
         Some(TableFault::Number(0, 1)),
     ),
-    // number 1 of an own table.
+    // Number 1 of an own table.
     (5, b"\x01", 22, b"\x82~\xf9:", TableKind::Own, None),
 ];
 
@@ -255,6 +255,11 @@ const LENGTH: usize = 997;
 const SUM: u32 = 0x0338_98b3;
 
 const PADDING: usize = 951;
+
+// The same of the table of 400 entries.
+const MANY_LENGTH: usize = 15_011;
+
+const MANY_SUM: u32 = 0x35ab_1927;
 
 // Puts the bytes over those at the place.
 fn patch(text: &mut Vec<u8>, at: usize, bytes: &[u8]) {
@@ -300,30 +305,25 @@ fn put(
     alloc: Global,
     writer: &mut TableWriter,
     key: &[u8],
+    number: u16,
     value: Option<&[u8]>,
 ) -> Result<bool, AddFault> {
     if key.len() > KEY_BYTES {
         return Ok(false);
     }
+    let number = number as u64;
     let mark = match value {
         Some(value) if value.len() <= VALUE_BYTES => MarkRef::Put(value),
         _ => MarkRef::Gone,
     };
-    writer.add(
-        alloc,
-        EntryRef {
-            key,
-            number: 0,
-            mark,
-        },
-    )?;
+    writer.add(alloc, EntryRef { key, number, mark })?;
     Ok(true)
 }
 
 #[test]
 fn one_entry_is_written(rt: HostRuntime) -> Result<(), Fail> {
     let mut writer = TableWriter::new(rt.alloc(), TableKind::External)?;
-    assert_eq!(rt; put(rt.alloc(), &mut writer, b"a", Some(b"1")), Ok(true));
+    assert_eq!(rt; put(rt.alloc(), &mut writer, b"a", 0, Some(b"1")), Ok(true));
     let text = writer.finish(rt.alloc())?;
     assert_eq!(rt; text.as_slice(), ONE.as_slice());
     Ok(())
@@ -339,7 +339,7 @@ fn several(alloc: Global) -> Result<Bytes, AddFault> {
         } else {
             Some(b"a value of some bytes".as_slice())
         };
-        put(alloc, &mut writer, &key, value)?;
+        put(alloc, &mut writer, &key, 0, value)?;
     }
     Ok(writer.finish(alloc)?)
 }
@@ -418,5 +418,82 @@ fn changes_are_found(rt: HostRuntime) -> Result<(), Fail> {
         assert_eq!(rt; accepted, (unseen_changes(place), true), "at {place}");
     }
     assert_eq!(rt; cuts_accepted(rt.alloc(), text.as_slice())?, 0);
+    Ok(())
+}
+
+// An own table of 400 entries, two of each key, every fifth a tombstone.
+fn many(alloc: Global) -> Result<Bytes, AddFault> {
+    let mut writer = TableWriter::new(alloc, TableKind::Own)?;
+    for i in 0..400u16 {
+        let j = i / 2;
+        let digits = [(j / 100) as u8, (j / 10 % 10) as u8, (j % 10) as u8];
+        let key = [
+            b'k',
+            b'e',
+            b'y',
+            b'0' + digits[0],
+            b'0' + digits[1],
+            b'0' + digits[2],
+        ];
+        let value = if i % 5 == 4 {
+            None
+        } else {
+            Some(b"a value of some thirty bytes ..".as_slice())
+        };
+        put(alloc, &mut writer, &key, 1000 - i, value)?;
+    }
+    Ok(writer.finish(alloc)?)
+}
+
+type Search = (&'static [u8], u64, usize, Option<u64>);
+
+// A key and a number, the place of the first entry at or after them, and the number of the newest entry of the key.
+static SEARCHES: [Search; 6] = [
+    (b"key010", 980, 20, Some(980)),
+    (b"key010", 979, 21, Some(979)),
+    (b"key010", 978, 22, None),
+    (b"key", 0, 0, None),
+    (b"key199", 5_000, 398, Some(602)),
+    (b"zebra", 5_000, 400, None),
+];
+
+#[test]
+fn blocks_are_searched(rt: HostRuntime) -> Result<(), Fail> {
+    let text = many(rt.alloc())?;
+    assert_eq!(rt; text.len(), MANY_LENGTH);
+    assert_eq!(rt; crc32c(text.as_slice()), MANY_SUM);
+    let table = opened(rt.alloc(), text.into_vec(), TableKind::Own)?
+        .ok()
+        .ok_or("no table")?;
+    let mut scratch = Scratch::new(rt.alloc())?;
+    for (key, number, place, newest) in SEARCHES.iter() {
+        assert_eq!(rt; table.lower(key, *number, &mut scratch), *place);
+        let found = table.find(key, *number, &mut scratch).map(|found| found.0);
+        assert_eq!(rt; found, *newest);
+        let same = table
+            .newest(key, *number, &mut scratch)
+            .map(|found| found.0);
+        assert_eq!(rt; same, *newest);
+    }
+    assert_eq!(rt; table.first(), Some(b"key000".as_slice()));
+    assert_eq!(rt; table.last(), Some(b"key199".as_slice()));
+    Ok(())
+}
+
+// The external table of these bytes, whose entries act under the number.
+fn opened_under(alloc: Global, bytes: Arc<Bytes>, number: u64) -> Result<Table, OpenTableFault> {
+    table_or_first_fault();
+    Table::open(alloc, bytes, TableKind::External, number)
+}
+
+#[test]
+fn entries_act_under_a_number(rt: HostRuntime) -> Result<(), Fail> {
+    let bytes = Arc::new(rt.alloc(), several(rt.alloc())?)?;
+    let table = opened_under(rt.alloc(), bytes, 9)?;
+    let mut scratch = Scratch::new(rt.alloc())?;
+    assert_eq!(rt; table.len(), 22);
+    let found = table.find(b"key02", 9, &mut scratch).map(|found| found.0);
+    assert_eq!(rt; found, Some(9));
+    assert_eq!(rt; table.find(b"key02", 8, &mut scratch), None);
     Ok(())
 }

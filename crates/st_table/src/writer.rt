@@ -3,13 +3,15 @@ ghost use Rattle.st_base.specs.Rows.{FitsMark, entry_of, mark_of};
 ghost use Rattle.st_base.specs.declared.entry.Entry.{Entry};
 ghost use Rattle.st_block.specs.Written.{added as added_to_block};
 ghost use Rattle.st_table.specs.Footer.{greatest_size};
-ghost use Rattle.st_table.specs.Written.{Holds, added, finished, finished_with, internal_key, table_bytes, value_under, with_data_block, with_closed, written_table};
+ghost use Rattle.st_table.specs.IsTable.{IsTable};
+ghost use Rattle.st_table.specs.Written.{Holds, MayBeTable, added, finished, finished_with, internal_key, table_bytes, value_under, with_data_block, with_closed, written_table};
 ghost use Rattle.st_table.specs.declared.writer.AddFault.TheVariants.{OutOfMemory};
 
 use crate::ending::ending;
 use crate::footer::greatest_size;
 use crate::handle::{Handle, TRAILER_BYTES};
 use crate::kind::TableKind;
+use crate::laws::written_table_opens;
 use crate::stored_bytes::{handle_bytes, push_stored};
 use st_base::{Bytes, EntryRef, MarkRef};
 use st_block::BlockWriter;
@@ -246,12 +248,15 @@ impl TableWriter {
         let bytes = whole_table(alloc, self.kind, self.count, blocks, index.as_slice())?;
         Ok(bytes)
     }
-    /// The table of what was added. It is within the limit of its kind.
+    /// The table of what was added. It is within the limit of its kind, and a table with these entries where they are in
+    /// strict order and each may stand in a table of that kind.
     pub fn finish(&self, alloc: Global) -> Result<Bytes, AllocError>
         ensures value { IfOk result (λ bytes. bytes ≡ finished self.now) }
         ensures written { IfOk result (λ bytes. (entries : List Entry) → Holds self.now entries → bytes ≡ written_table self.now.kind entries) }
+        ensures table { IfOk result (λ bytes. (entries : List Entry) → Holds self.now entries → MayBeTable self.now.kind entries → IsTable bytes self.now.kind entries) }
         ensures fits { IfOk result (λ bytes. length bytes ≤ greatest_size self.now.kind) }
     {
+        written_table_opens();
         let bytes = self.finished(alloc)?;
         Ok(bytes)
     }

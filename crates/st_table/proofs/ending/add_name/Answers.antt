@@ -1,4 +1,4 @@
-use Rattle.std.proofs.Common.{◌≡◌, ◌+◌, ◌*◌, ◌≤◌, [], ◌∷◌, ◌++◌, length, sym, subst, arith}
+use Rattle.std.proofs.Common.{◌+◌, ◌*◌, ◌≤◌, [], ◌∷◌, ◌++◌, length, sym, subst, arith}
 use Rattle.st_block.proofs.Writers.{finished_short}
 use Rattle.st_block.specs.Written.{Holds, Writing}
 use Rattle.st_table.proofs.Sizes.{added_short}

@@ -1,7 +1,7 @@
-use Rattle.std.proofs.Common.{◌≡◌, ℕ, List, [], ◌∷◌, sym, ap, ◌∙◌}
+use Rattle.std.proofs.Common.{ℕ, List, [], ◌∷◌, ap, ◌∙◌}
 use Rattle.st_block.specs.Written.{written_block}
 use Rattle.st_table.specs.Properties.{bytewise, comparator_name, version_name}
-use Rattle.st_table.specs.Written.{Pair, entries_name, property_pairs, sequence_name}
+use Rattle.st_table.specs.Written.{Pair, entries_name, sequence_name}
 use Rattle.st_code.specs.Fixed.{fixed32, fixed64}
 use Rattle.st_table.proofs.ending.external_properties.Goals as goal
 

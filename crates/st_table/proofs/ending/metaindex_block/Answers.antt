@@ -1,4 +1,4 @@
-use Rattle.std.proofs.Common.{◌≡◌, ℕ, List, [], ◌∷◌, sym, ap, length, ◌∙◌, arith}
+use Rattle.std.proofs.Common.{ℕ, List, [], ◌∷◌, ap, length, ◌∙◌, arith}
 use Rattle.st_block.specs.Written.{written_block}
 use Rattle.st_table.specs.Metaindex.{properties_name}
 use Rattle.st_table.specs.Written.{Pair}

@@ -1,4 +1,4 @@
-use Rattle.std.proofs.Common.{◌≡◌, ℕ, List, [], ◌∷◌, sym, ap, ◌∙◌}
+use Rattle.std.proofs.Common.{ℕ, List, [], ◌∷◌, ap, ◌∙◌}
 use Rattle.st_block.specs.Written.{written_block}
 use Rattle.st_table.specs.Properties.{bytewise, comparator_name}
 use Rattle.st_table.specs.Written.{Pair, entries_name}

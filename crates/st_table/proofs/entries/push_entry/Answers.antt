@@ -1,9 +1,8 @@
-use Rattle.std.proofs.Common.{◌≡◌, ℕ, List, None, length, sym, ap, subst, ◌∙◌, arith}
-use Rattle.std.specs.Prelude.{slice_get}
+use Rattle.std.proofs.Common.{List, length, sym, subst}
 use Rattle.std.specs.Option.{option_copied}
 use Rattle.st_base.specs.Rows.{AreRows}
 use Rattle.st_base.specs.declared.entry.Entry.{Entry}
-use Rattle.st_table.specs.Entries.{entry_fault, last_entry}
+use Rattle.st_table.specs.Entries.{last_entry}
 use Rattle.st_table.proofs.Behind.{no_fault, passes_of, rows_more}
 use Rattle.st_table.proofs.entries.push_entry.Goals as goal
 

@@ -1,4 +1,4 @@
-use Rattle.std.proofs.Common.{◌≡◌, List, sym, subst, inl, inr, rules}
+use Rattle.std.proofs.Common.{List, sym, subst, inl, inr, rules}
 use Rattle.st_base.specs.Rows.{AreRows}
 use Rattle.st_base.specs.declared.entry.Entry.{Entry}
 use Rattle.st_table.proofs.Acting.{acting_rows}
@@ -9,7 +9,7 @@ pub invariant_of-result : goal.invariant_of-result
 invariant_of-result c =
     subst (λ (l : List Entry). AreRows l) (sym c.renumbered.ensures)
     (acting_rows c.args.number c.in_ok-entries.entries
-      (elim c.requires [ inl e ↦ inl e | inr f ↦ inr (f c.in_ok-entries.entries (table_is c.args.bytes.value c.args.kind c.in_ok-entries.entries c.in_ok-entries.ensures.ok)) ]) c.in_ok-entries.ensures.rows)
+    (elim c.requires [ inl e ↦ inl e | inr f ↦ inr (f c.in_ok-entries.entries (table_is c.args.bytes.value c.args.kind c.in_ok-entries.entries c.in_ok-entries.ensures.ok)) ]) c.in_ok-entries.ensures.rows)
 
 pub returns-clause-ok : goal.returns-clause-ok
 returns-clause-ok c = (c.in_ok-entries.entries, table_is c.args.bytes.value c.args.kind c.in_ok-entries.entries c.in_ok-entries.ensures.ok, c.renumbered.ensures)

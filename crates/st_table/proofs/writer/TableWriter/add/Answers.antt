@@ -1,4 +1,4 @@
-use Rattle.std.proofs.Common.{◌≡◌, sym, ◌∙◌}
+use Rattle.std.proofs.Common.{sym, ◌∙◌}
 use Rattle.st_base.specs.Rows.{entry_of}
 use Rattle.st_table.proofs.Writing.{fits_of, too_large_of}
 use Rattle.st_table.proofs.writer.TableWriter.add.Goals as goal

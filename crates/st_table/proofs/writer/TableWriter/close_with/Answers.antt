@@ -1,6 +1,6 @@
-use Rattle.std.proofs.Common.{◌≡◌, ℕ, List, ◌+◌, ◌++◌, ◌<◌, ◌^◌, length, take, sym, ap, subst, ◌∙◌, arith}
+use Rattle.std.proofs.Common.{ℕ, List, ◌++◌, ◌<◌, ◌^◌, length, sym, ap, subst, ◌∙◌, arith}
 use Rattle.st_block.specs.Written.{Writing, added as added_to_block, finished as finished_block}
-use Rattle.st_table.specs.Written.{IsWriter, Writer, handle_bytes, indexed_block, stored, with_closed, no_entries}
+use Rattle.st_table.specs.Written.{IsWriter, Writer, stored}
 use Rattle.st_table.proofs.Sizes.{handle_short}
 use Rattle.st_table.proofs.Writing.{Fits, block_room, closed_is, closed_keeps, grows, handle_is, index_room, none_is, taken_back}
 use Rattle.st_table.proofs.writer.TableWriter.close_with.Goals as goal

@@ -1,7 +1,7 @@
-use Rattle.std.proofs.Common.{◌≡◌, ◌≤◌, ◌<◌, ◌^◌, ℕ, List, ◌++◌, length, sym, ap, subst, ◌∙◌, arith}
+use Rattle.std.proofs.Common.{◌≡◌, ◌≤◌, ◌<◌, ◌^◌, ℕ, List, length, sym, ap, subst, ◌∙◌, arith}
 use Rattle.st_block.specs.Written.{added as added_to_block, finished as finished_block}
 use Rattle.st_table.specs.Footer.{greatest_size}
-use Rattle.st_table.specs.Written.{Writer, finished, finished_with, indexed_block, stored, table_bytes}
+use Rattle.st_table.specs.Written.{Writer, finished, indexed_block}
 use Rattle.st_table.proofs.Sizes.{handle_short, limit_short, parts_short, whole_parts_short}
 use Rattle.st_table.proofs.Writing.{Parts, finished_some, handle_is, parts_of, parts_whole, some_entries}
 use Rattle.st_table.proofs.writer.TableWriter.finished.Goals as goal

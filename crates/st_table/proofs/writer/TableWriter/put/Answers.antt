@@ -1,4 +1,4 @@
-use Rattle.std.proofs.Common.{◌≡◌, ◌+◌, sym, subst, arith}
+use Rattle.std.proofs.Common.{◌+◌, sym, subst, arith}
 use Rattle.st_block.specs.Written.{Writing, added as added_to_block}
 use Rattle.st_table.specs.Written.{IsWriter, Writer}
 use Rattle.st_table.proofs.Writing.{Fits, block_room, grows, open_keeps}
