@@ -16,6 +16,8 @@ mod kind;
 mod laws;
 mod metaindex;
 mod properties;
+#[cfg(test)]
+mod rocksdb_tests;
 mod stored;
 mod stored_bytes;
 mod table;
