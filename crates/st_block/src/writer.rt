@@ -255,7 +255,8 @@ impl BlockWriter {
 
     /// The key of the last entry that was added; no bytes where there is none.
     pub fn last_key(&self) -> &[u8]
-        ensures { result.now ≡ self.now.last }
+        ensures value { result.now ≡ self.now.last }
+        ensures within { length self.now.last ≤ INTERNAL_KEY_BYTES }
     {
         self.last.as_slice()
     }

@@ -1,3 +1,4 @@
+pub mod Crash
 pub mod Disk
 pub mod Files
 pub mod Laws

@@ -3,6 +3,9 @@
 //!
 //! A call answers `Failed` only where the count of that disk rose in the call, or stands at its end. Code that is generic
 //! over the trait can't raise a count, so a layer above can't give up without a fault.
+//!
+//! `FolderDisk` and `UnrecordedDisk` tell nothing of what they hold, so no clause refuses a body of theirs that reads or
+//! keeps nothing; a test runs each.
 #![tactic(auto)]
 
 mod counts;

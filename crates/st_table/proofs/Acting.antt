@@ -1,11 +1,10 @@
 -- Entries that act under the number of their table.
-use Rattle.std.proofs.Common.{◌≡◌, ◌⊎◌, ℕ, Bool, true, false, cond, eqb, ◌&&◌, List, [], ◌∷◌, Ordering, Less, Equal, Greater, refl, sym, ap, subst, ◌∙◌, inl, inr}
-use Rattle.std.specs.Prelude.{map}
+use Rattle.std.proofs.Common.{◌≡◌, ◌⊎◌, ℕ, Bool, true, false, cond, eqb, List, [], ◌∷◌, Ordering, Less, Equal, Greater, refl, sym, ap, subst, ◌∙◌, inl, inr}
 use Rattle.std.specs.List.{AllByRecursion}
 use Rattle.std.specs.Ordering.{is_lt, nat_cmp, ordering_then}
-use Rattle.std.proofs.lemmas.Bool.{and_parts, and_from, cases_Bool, eqb-true, eq-eqb, ne_eqb, false≢true}
+use Rattle.std.proofs.lemmas.Bool.{and_parts, and_from, cases_Bool, eq-eqb, false≢true}
 use Rattle.st_base.specs.Bytes.{below, bytes_cmp}
-use Rattle.st_base.specs.Order.{comes_before, in_order, rises, rises_behind}
+use Rattle.st_base.specs.Order.{comes_before, in_order, rises_behind}
 use Rattle.st_base.specs.Rows.{AreRows, Fits}
 use Rattle.st_base.specs.declared.entry.Entry.{Entry}
 use Rattle.st_table.specs.Table.{act_under, acting, keys_rise}

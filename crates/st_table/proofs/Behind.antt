@@ -1,6 +1,6 @@
 -- Entries with one more behind them are rows again.
-use Rattle.std.proofs.Common.{◌≡◌, ℕ, zero, suc, ◌+◌, ◌-◌, ◌≤◌, Bool, true, false, cond, ◌&&◌, ltb, eqb, List, [], ◌∷◌, ◌++◌, length, take, Option, Some, None, refl, sym, ap, subst, ◌∙◌, arith}
-use Rattle.std.specs.Prelude.{not, slice_get, IsTrue}
+use Rattle.std.proofs.Common.{◌≡◌, ℕ, suc, ◌-◌, ◌≤◌, Bool, true, false, cond, ltb, eqb, List, [], ◌∷◌, ◌++◌, length, Option, Some, None, refl, sym, ap, ◌∙◌, arith}
+use Rattle.std.specs.Prelude.{not, slice_get}
 use Rattle.std.specs.List.{AllByRecursion}
 use Rattle.std.proofs.lemmas.Bool.{and_parts, and_from, ltb-false}
 use Rattle.std.proofs.lemmas.List.{length-take}
@@ -15,7 +15,7 @@ use Rattle.st_table.specs.declared.kind.TableKind.{TableKind}
 
 -- ---- order
 
-last_more : (x y : Entry) (ys : List Entry) → last_entry (x ∷ y ∷ ys) ≡ last_entry (y ∷ ys)
+pub last_more : (x y : Entry) (ys : List Entry) → last_entry (x ∷ y ∷ ys) ≡ last_entry (y ∷ ys)
 last_more x y ys = ap (λ (k : ℕ). slice_get (x ∷ y ∷ ys) k) (let k : length (x ∷ y ∷ ys) - 1 ≡ suc (length (y ∷ ys) - 1) = omega arith in k)
 
 behind_more : (x : Entry) (xs : List Entry) (e : Entry) → rises_behind comes_before x xs ≡ true → is_behind (last_entry (x ∷ xs)) e.key e.number ≡ true → rises_behind comes_before x (xs ++ e ∷ []) ≡ true

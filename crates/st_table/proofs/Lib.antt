@@ -1,2 +1,10 @@
 pub mod Acting
 pub mod Behind
+pub mod Grouped
+pub mod Holding
+pub mod Inverse
+pub mod Reread
+pub mod Sizes
+pub mod Tables
+pub mod WrittenOpens
+pub mod Writing

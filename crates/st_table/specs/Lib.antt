@@ -2,8 +2,10 @@ pub mod DataBlocks
 pub mod Entries
 pub mod Footer
 pub mod Found
+pub mod IsTable
 pub mod Metaindex
 pub mod Properties
 pub mod Steps
 pub mod Stored
 pub mod Table
+pub mod Written

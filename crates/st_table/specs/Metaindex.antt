@@ -1,5 +1,5 @@
 -- Blocks of names: the metaindex, whose values are handles, and the properties.
-use Rattle.std.specs.Prelude.{ℕ, ◌+◌, ◌-◌, List, [], ◌∷◌, length, codes, Option, Some, None, option_map, Result, Ok, Err, if◌then◌else◌}
+use Rattle.std.specs.Prelude.{ℕ, ◌+◌, ◌-◌, List, [], ◌∷◌, length, codes, Option, Some, None, Result, Err, if◌then◌else◌}
 use Rattle.std.specs.Option.{is_some}
 use Rattle.st_base.specs.Bytes.{same}
 use Rattle.st_base.specs.declared.faults.TableFault.{TableFault}

@@ -11,6 +11,8 @@ use Rattle.st_table.specs.Metaindex.{properties_handle}
 use Rattle.st_table.specs.Properties.{properties_fault}
 use Rattle.st_table.specs.Steps.{◌>>=◌, unless}
 use Rattle.st_table.specs.Stored.{block_at}
+use Rattle.st_table.specs.declared.fault.OpenTableFault.{OpenTableFault}
+use Rattle.st_table.specs.declared.fault.OpenTableFault.TheVariants.{Bad, OutOfMemory}
 use Rattle.st_table.specs.declared.kind.TableKind.{TableKind}
 
 -- the entries of a table, or its first fault
@@ -21,6 +23,19 @@ table_of kind bytes = do
   handle ← properties_handle bytes footer.metaindex.offset metaindex
   properties ← block_at Plain bytes handle
   unless (properties_fault kind properties) (block_at Index bytes footer.index >>= data_of kind bytes footer.index.offset)
+
+-- the first fault in reading order, or none where the bytes are a table of the kind
+abbrev pub fault_of : {A : Type 0} → Result A TableFault → Option TableFault
+fault_of (Ok value) = None
+fault_of (Err fault) = Some fault
+
+abbrev pub first_fault : List ℕ → TableKind → Option TableFault
+first_fault bytes kind = fault_of (table_of kind bytes)
+
+-- what a call answers is the first fault, unless memory ran out
+abbrev pub IsFirstFault : List ℕ → TableKind → OpenTableFault → Type 0
+IsFirstFault bytes kind (Bad fault) = first_fault bytes kind ≡ Some fault
+IsFirstFault bytes kind OutOfMemory = Unit {0}
 
 -- entries under the number of their table, or under their own where it is 0
 abbrev pub act_under : ℕ → Entry → Entry

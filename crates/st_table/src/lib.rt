@@ -5,18 +5,28 @@
 //! the last data block, and reserves nothing by a count or a length that they state.
 #![tactic(auto)]
 
-mod kind;
+mod data_blocks;
+mod ending;
+mod entries;
 mod fault;
-mod handle;
+mod find;
 mod footer;
-mod stored;
+mod handle;
+mod kind;
+mod laws;
 mod metaindex;
 mod properties;
-mod entries;
-mod data_blocks;
-mod find;
+#[cfg(test)]
+mod rocksdb_tests;
+mod stored;
+mod stored_bytes;
 mod table;
+#[cfg(test)]
+mod tests;
+mod writer;
 
 pub use fault::OpenTableFault;
 pub use kind::TableKind;
+pub use laws::{table_or_first_fault, table_writer_holds_what_is_added, written_table_opens};
 pub use table::Table;
+pub use writer::{AddFault, TableWriter};

@@ -40,7 +40,9 @@ fn comparator_fault(block: &Block, scratch: &mut Scratch) -> Option<TableFault>
     ensures { result ≡ comparator_fault block.now }
 {
     match named_in(block, b"rocksdb.comparator", scratch) {
-        Some(found) if found.value != b"leveldb.BytewiseComparator".as_slice() => Some(TableFault::Comparator),
+        Some(found) if found.value != b"leveldb.BytewiseComparator".as_slice() => Some(
+            TableFault::Comparator,
+        ),
         _ => None,
     }
 }

@@ -2,7 +2,8 @@ ghost use Rattle.std.specs.Prelude.{◌≡◌, ◌⊎◌, ◌<◌, ◌^◌, List
 ghost use Rattle.st_base.specs.Rows.{AreRows, entry_of, first_key, last_key, lower_place, mark_of, newest};
 ghost use Rattle.st_base.specs.declared.entry.Entry.{Entry};
 ghost use Rattle.st_table.specs.Steps.{Fails};
-ghost use Rattle.st_table.specs.Table.{acting, keys_rise, table_of};
+ghost use Rattle.st_table.specs.IsTable.{IsTable};
+ghost use Rattle.st_table.specs.Table.{IsFirstFault, acting, keys_rise, table_of};
 
 use crate::data_blocks::data_of;
 use crate::fault::OpenTableFault;
@@ -20,11 +21,7 @@ use std::sync::Arc;
 
 // The entries of a table of this kind, or its first fault.
 #[tactic(auto, unfolding(crate::specs::Table::table_of))]
-fn table_of(
-    alloc: Global,
-    bytes: &Arc<Bytes>,
-    kind: TableKind,
-) -> Result<Entries, OpenTableFault>
+fn table_of(alloc: Global, bytes: &Arc<Bytes>, kind: TableKind) -> Result<Entries, OpenTableFault>
     ensures ok { IfOk result (λ entries. table_of kind bytes.now.value ≡ Ok entries) }
     ensures rows { IfOk result AreRows }
     ensures err { IfErr result (λ fault. Fails fault (table_of kind bytes.now.value)) }
@@ -88,9 +85,9 @@ impl Table {
         kind: TableKind,
         number: u64,
     ) -> Result<Table, OpenTableFault>
-        requires { (number ≡ 0) ⊎ ((entries : List Entry) → table_of kind bytes.value ≡ Ok entries → IsTrue (keys_rise entries)) }
-        ensures ok { IfOk result (λ table. ((entries : List Entry) × (table_of kind bytes.value ≡ Ok entries) × (table ≡ acting number entries))) }
-        ensures bad { IfErr result (λ fault. Fails fault (table_of kind bytes.value)) }
+        requires { (number ≡ 0) ⊎ ((entries : List Entry) → IsTable bytes.value kind entries → IsTrue (keys_rise entries)) }
+        ensures ok { IfOk result (λ table. ((entries : List Entry) × IsTable bytes.value kind entries × (table ≡ acting number entries))) }
+        ensures bad { IfErr result (IsFirstFault bytes.value kind) }
     {
         let entries = table_of(alloc, &bytes, kind)?;
         Ok(Table {

@@ -1,4 +1,4 @@
-use Rattle.std.proofs.Common.{◌≡◌, ℕ, List, [], sym, ap, subst, refl, ◌∙◌, arith}
+use Rattle.std.proofs.Common.{ℕ, List, [], sym, ap, subst, refl, ◌∙◌, arith}
 use Rattle.st_base.specs.Rows.{AreRows}
 use Rattle.st_base.specs.declared.entry.Entry.{Entry}
 use Rattle.st_block.specs.Block.{Cell}

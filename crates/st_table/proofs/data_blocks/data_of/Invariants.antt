@@ -1,4 +1,4 @@
-use Rattle.std.proofs.Common.{◌≡◌, ◌-◌, ◌≤◌, []}
+use Rattle.std.proofs.Common.{◌≡◌, ◌-◌, ◌≤◌}
 use Rattle.st_base.specs.Rows.{AreRows}
 use Rattle.st_block.specs.Place.{Stands, cells_at}
 use Rattle.st_table.specs.DataBlocks.{data_of, with_blocks}

@@ -1,0 +1,153 @@
+-- What a writer of a table keeps.
+use Rattle.std.proofs.Common.{◌≡◌, ℕ, ◌+◌, ◌^◌, ◌<◌, ◌≤◌, Bool, true, false, cond, eqb, leb, List, [], ◌++◌, length, take, sym, ap, subst, ◌∙◌, arith}
+use Rattle.std.specs.Prelude.{IsTrue, ◌↔◌}
+use Rattle.std.proofs.lemmas.Bool.{ne_eqb, leb-true, leb-false, false≢true}
+use Rattle.st_base.specs.declared.entry.Entry.{Entry}
+use Rattle.std.proofs.lemmas.List.{length-append}
+use Rattle.std.proofs.Math.Seq.{take-append_seam}
+use Rattle.st_block.proofs.Writers.{entry_some, finished_long, tail_length}
+use Rattle.st_block.specs.Written.{Writing, added as added_to_block, entry_bytes, finished as finished_block, shared_of, Holds as BlockHolds}
+use Rattle.st_table.specs.Footer.{greatest_size}
+use Rattle.st_table.specs.Written.{IsWriter, Writer, added, ending, internal_key, value_under, finished, finished_with, handle_bytes, indexed_block, no_entries, stored, table_bytes, with_closed, with_open}
+use Rattle.st_table.specs.declared.kind.TableKind.{TableKind}
+use Rattle.st_table.specs.declared.kind.TableKind.TheVariants.{External, Own}
+use Rattle.st_table.proofs.Sizes.{ending_short, finished_added, finished_either, parts_short, stored_length, table_length, limit_short}
+
+-- ---- how long the table is
+
+pub total_is : (kind : TableKind) (count : ℕ) (blocks : List ℕ) (block index : Writing) (handle : List ℕ) (len size index_size before : ℕ)
+    → len ≡ length blocks → size ≡ length (finished_block block) → handle ≡ handle_bytes (record { offset = len; size = size }) → index_size ≡ length (finished_block (added_to_block index block.last handle)) → before ≡ len + size + 5 + index_size + 5
+    → length (finished_with kind count blocks block index) ≡ before + length (ending kind count before (record { offset = len + size + 5; size = index_size }))
+total_is kind count blocks block index handle len size index_size before l s h i b =
+    let b' = blocks ++ stored (finished_block block) in
+    let i' = finished_block (indexed_block index (length blocks) block) in
+    let same : handle ≡ handle_bytes (record { offset = length blocks; size = length (finished_block block) }) =
+    h ∙ ap (λ (n : ℕ). handle_bytes (record { offset = n; size = size })) l ∙ ap (λ (n : ℕ). handle_bytes (record { offset = length blocks; size = n })) s in
+    let isize : index_size ≡ length i' = i ∙ ap (λ (x : List ℕ). length (finished_block (added_to_block index block.last x))) same in
+    let bsize : length b' ≡ len + size + 5 = omega (arith, length-append blocks (stored (finished_block block)), stored_length (finished_block block), l, s) in
+    let whole : length b' + length (stored i') ≡ before = omega (arith, bsize, stored_length i', isize, b) in
+    let e : length (ending kind count (length b' + length (stored i')) (record { offset = length b'; size = length i' })) ≡ length (ending kind count before (record { offset = len + size + 5; size = index_size })) =
+    ap (λ (n : ℕ). length (ending kind count n (record { offset = length b'; size = length i' }))) whole
+    ∙ ap (λ (n : ℕ). length (ending kind count before (record { offset = n; size = length i' }))) bsize
+    ∙ ap (λ (n : ℕ). length (ending kind count before (record { offset = len + size + 5; size = n }))) (sym isize) in
+    omega (arith, table_length kind count b' i', e, bsize, isize, b)
+
+-- ---- a writer without entries
+
+pub none_is : (writing : Writing) (interval : ℕ) → BlockHolds writing [] → writing.interval ≡ interval → writing ≡ no_entries interval
+none_is writing interval h e =
+    ap (λ (n : ℕ). let w : Writing = record { interval = n; count = writing.count; entries = writing.entries; restarts = writing.restarts; last = writing.last } in w) e
+    ∙ ap (λ (n : ℕ). let w : Writing = record { interval = interval; count = n; entries = writing.entries; restarts = writing.restarts; last = writing.last } in w) (sym h.count)
+    ∙ ap (λ (l : List ℕ). let w : Writing = record { interval = interval; count = 0; entries = l; restarts = writing.restarts; last = writing.last } in w) h.entries
+    ∙ ap (λ (l : List ℕ). let w : Writing = record { interval = interval; count = 0; entries = []; restarts = l; last = writing.last } in w) h.restarts
+    ∙ ap (λ (l : List ℕ). let w : Writing = record { interval = interval; count = 0; entries = []; restarts = []; last = l } in w) h.last
+
+limit_long : (kind : TableKind) → 2000 ≤ greatest_size kind
+limit_long External = omega arith
+limit_long Own = omega arith
+
+pub new_keeps : (kind : TableKind) (blocks : List ℕ) (block index : Writing) → blocks ≡ [] → block ≡ no_entries 16 → index ≡ no_entries 1 → IsWriter (record { kind = kind; count = 0; blocks = blocks; block = block; index = index })
+new_keeps kind blocks block index b o i =
+    let empty : Writer = record { kind = kind; count = 0; blocks = []; block = no_entries 16; index = no_entries 1 } in
+    let base : IsWriter empty = record {
+      fits = omega (arith, limit_long kind, table_length kind 0 [] (finished_block (no_entries 1)), ending_short kind 0 (0 + length (stored (finished_block (no_entries 1)))) (record { offset = 0; size = length (finished_block (no_entries 1)) }), tail_length [] []);
+      blocks_short = omega arith;
+      counted = omega arith;
+    } in
+    subst (λ (x : List ℕ). IsWriter (record { kind = kind; count = 0; blocks = x; block = block; index = index })) (sym b)
+    (subst (λ (x : Writing). IsWriter (record { kind = kind; count = 0; blocks = []; block = x; index = index })) (sym o)
+    (subst (λ (x : Writing). IsWriter (record { kind = kind; count = 0; blocks = []; block = no_entries 16; index = x })) (sym i) base))
+
+-- ---- an entry more
+
+pub grows : (writing : Writing) (key value : List ℕ) → length writing.entries + 1 ≤ length (added_to_block writing key value).entries
+grows writing key value =
+    let entry = entry_bytes (shared_of writing.interval writing.count writing.last key) key value in
+    omega (arith, length-append writing.entries entry, entry_some (shared_of writing.interval writing.count writing.last key) key value)
+
+abbrev pub Fits : Writer → Writing → Type 0
+Fits w block = length (finished_with w.kind (w.count + 1) w.blocks block w.index) ≤ greatest_size w.kind
+
+pub block_room : (w : Writer) (block : Writing) → Fits w block → length (finished_block block) < 2 ^ 32
+block_room w block room = omega (arith, room, parts_short w.kind (w.count + 1) w.blocks block w.index, limit_short w.kind)
+
+pub index_room : (w : Writer) (block : Writing) → Fits w block → length (finished_block (indexed_block w.index (length w.blocks) block)) < 2 ^ 32
+index_room w block room = omega (arith, room, parts_short w.kind (w.count + 1) w.blocks block w.index, limit_short w.kind)
+
+pub open_keeps : (w : Writer) (block : Writing) → 0 < block.count → length w.block.entries + 1 ≤ length block.entries → Fits w block → IsWriter w → IsWriter (with_open w block)
+open_keeps w block some more room h = record {
+  fits = subst (λ (l : List ℕ). length l ≤ greatest_size w.kind) (sym (finished_either w block false some)) room;
+  blocks_short = h.blocks_short;
+  counted = omega (arith, more, h.counted);
+}
+
+pub closed_keeps : (w : Writer) (block : Writing) → 0 < block.count → length w.block.entries + 1 ≤ length block.entries → Fits w block → IsWriter w → IsWriter (with_closed w block)
+closed_keeps w block some more room h =
+    let size = length-append w.blocks (stored (finished_block block)) in
+    record {
+      fits = subst (λ (l : List ℕ). length l ≤ greatest_size w.kind) (sym (finished_either w block true some)) room;
+      blocks_short = omega (arith, size, stored_length (finished_block block), room, parts_short w.kind (w.count + 1) w.blocks block w.index, limit_short w.kind);
+      counted = omega (arith, size, stored_length (finished_block block), finished_long block, more, h.counted);
+    }
+
+-- ---- in the words of the code
+
+pub handle_is : (blocks : List ℕ) (block : Writing) (handle contents : List ℕ) (len size : ℕ) → len ≡ length blocks → size ≡ length contents → contents ≡ finished_block block → handle ≡ handle_bytes (record { offset = len; size = size })
+    → handle ≡ handle_bytes (record { offset = length blocks; size = length (finished_block block) })
+handle_is blocks block handle contents len size l s f h =
+    h ∙ ap (λ (n : ℕ). handle_bytes (record { offset = n; size = size })) l ∙ ap (λ (n : ℕ). handle_bytes (record { offset = length blocks; size = n })) (s ∙ ap length f)
+
+pub taken_back : (blocks out more : List ℕ) (len : ℕ) → len ≡ length blocks → out ≡ blocks ++ more → take len out ≡ blocks
+taken_back blocks out more len l e = ap (λ (n : ℕ). take n out) l ∙ ap (take (length blocks)) e ∙ take-append_seam blocks more
+
+pub closed_is : (w : Writer) (block : Writing) (out : List ℕ) (next index : Writing) → out ≡ w.blocks ++ stored (finished_block block) → next ≡ no_entries 16 → index ≡ indexed_block w.index (length w.blocks) block
+    → (let v : Writer = record { kind = w.kind; count = w.count + 1; blocks = out; block = next; index = index } in v) ≡ with_closed w block
+closed_is w block out next index o n i =
+    ap (λ (x : List ℕ). let v : Writer = record { kind = w.kind; count = w.count + 1; blocks = x; block = next; index = index } in v) o
+    ∙ ap (λ (x : Writing). let v : Writer = record { kind = w.kind; count = w.count + 1; blocks = w.blocks ++ stored (finished_block block); block = x; index = index } in v) n
+    ∙ ap (λ (x : Writing). let v : Writer = record { kind = w.kind; count = w.count + 1; blocks = w.blocks ++ stored (finished_block block); block = no_entries 16; index = x } in v) i
+
+-- what the test for room says of the table with the entry
+with_entry_is : (w : Writer) (e : Entry) (key value : List ℕ) → key ≡ internal_key e → value ≡ value_under e.mark
+    → length (finished_with w.kind (w.count + 1) w.blocks (added_to_block w.block key value) w.index) ≡ length (finished (added w e))
+with_entry_is w e key value k v =
+    ap (λ (x : List ℕ). length (finished_with w.kind (w.count + 1) w.blocks (added_to_block w.block x value) w.index)) k
+    ∙ ap (λ (x : List ℕ). length (finished_with w.kind (w.count + 1) w.blocks (added_to_block w.block (internal_key e) x) w.index)) v
+    ∙ ap length (sym (finished_added w e))
+
+pub too_large_of : (w : Writer) (e : Entry) (key value : List ℕ) → key ≡ internal_key e → value ≡ value_under e.mark
+    → leb (length (finished_with w.kind (w.count + 1) w.blocks (added_to_block w.block key value) w.index)) (greatest_size w.kind) ≡ false → greatest_size w.kind < length (finished (added w e))
+too_large_of w e key value k v f = omega (arith, with_entry_is w e key value k v, leb-false _ _ f)
+
+pub fits_of : (w : Writer) (e : Entry) (key value : List ℕ) → key ≡ internal_key e → value ≡ value_under e.mark
+    → leb (length (finished_with w.kind (w.count + 1) w.blocks (added_to_block w.block key value) w.index)) (greatest_size w.kind) ≡ true → length (finished (added w e)) ≤ greatest_size w.kind
+fits_of w e key value k v t = omega (arith, with_entry_is w e key value k v, leb-true _ _ t)
+
+-- ---- the finished table
+
+pub some_entries : (b : Bool) (count : ℕ) → b ≡ false → IsTrue b ↔ (count ≡ 0) → eqb count 0 ≡ false
+some_entries b count f h = ne_eqb count 0 (λ e. false≢true (sym f ∙ h.1 e))
+
+pub finished_some : (w : Writer) → eqb w.block.count 0 ≡ false → finished w ≡ finished_with w.kind w.count w.blocks w.block w.index
+finished_some w f = ap (λ (t : Bool). cond t (table_bytes w.kind w.count w.blocks (finished_block w.index)) (finished_with w.kind w.count w.blocks w.block w.index)) f
+
+pub whole_is : (w : Writer) (out index : List ℕ) → out ≡ w.blocks ++ stored (finished_block w.block) → index ≡ finished_block (indexed_block w.index (length w.blocks) w.block)
+    → table_bytes w.kind w.count out index ≡ finished_with w.kind w.count w.blocks w.block w.index
+whole_is w out index o i =
+    ap (λ (x : List ℕ). table_bytes w.kind w.count x index) o ∙ ap (λ (x : List ℕ). table_bytes w.kind w.count (w.blocks ++ stored (finished_block w.block)) x) i
+
+-- the data blocks and the index block from which a table is finished
+pub record Parts (w : Writer) (out index : List ℕ) : Type 0 where
+  pub blocks_are : out ≡ w.blocks ++ stored (finished_block w.block)
+  pub index_is : index ≡ finished_block (indexed_block w.index (length w.blocks) w.block)
+
+pub parts_of : (w : Writer) (blocks contents slice last handle index out slice2 : List ℕ) → blocks ≡ w.blocks → contents ≡ finished_block w.block → slice ≡ contents → out ≡ blocks ++ stored slice
+    → last ≡ w.block.last → handle ≡ handle_bytes (record { offset = length w.blocks; size = length (finished_block w.block) }) → index ≡ finished_block (added_to_block w.index last handle) → slice2 ≡ index
+    → Parts w out slice2
+parts_of w blocks contents slice last handle index out slice2 b f s o l h i t = record {
+  blocks_are = o ∙ ap (λ (x : List ℕ). x ++ stored slice) b ∙ ap (λ (x : List ℕ). w.blocks ++ stored x) (s ∙ f);
+  index_is = t ∙ i ∙ ap (λ (x : List ℕ). finished_block (added_to_block w.index x handle)) l ∙ ap (λ (x : List ℕ). finished_block (added_to_block w.index w.block.last x)) h;
+}
+
+pub parts_whole : (w : Writer) (out index : List ℕ) → Parts w out index → eqb w.block.count 0 ≡ false → table_bytes w.kind w.count out index ≡ finished w
+parts_whole w out index p f = whole_is w out index p.blocks_are p.index_is ∙ sym (finished_some w f)

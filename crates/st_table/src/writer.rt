@@ -1,0 +1,263 @@
+ghost use Rattle.std.specs.Prelude.{◌≡◌, ◌+◌, ◌<◌, ◌≤◌, ◌^◌, ℕ, List, [], Err, length, nat_le, IfOk, OnOk, OnErr};
+ghost use Rattle.st_base.specs.Rows.{FitsMark, entry_of, mark_of};
+ghost use Rattle.st_base.specs.declared.entry.Entry.{Entry};
+ghost use Rattle.st_block.specs.Written.{added as added_to_block};
+ghost use Rattle.st_table.specs.Footer.{greatest_size};
+ghost use Rattle.st_table.specs.IsTable.{IsTable};
+ghost use Rattle.st_table.specs.Written.{Holds, MayBeTable, added, finished, finished_with, internal_key, table_bytes, value_under, with_data_block, with_closed, written_table};
+ghost use Rattle.st_table.specs.declared.writer.AddFault.TheVariants.{OutOfMemory};
+
+use crate::ending::ending;
+use crate::footer::greatest_size;
+use crate::handle::{Handle, TRAILER_BYTES};
+use crate::kind::TableKind;
+use crate::laws::written_table_opens;
+use crate::stored_bytes::{handle_bytes, push_stored};
+use st_base::{Bytes, EntryRef, MarkRef};
+use st_block::BlockWriter;
+use st_code::push_fixed64;
+use std::alloc::{AllocError, Global};
+use std::marker::Model;
+
+/// A data block is closed after the entry with which its entries have so many bytes.
+const BLOCK_BYTES: usize = 4_096;
+
+/// There is a restart at every so many entries of a data block.
+const RESTART_INTERVAL: u32 = 16;
+
+/// What stands behind the index block has at most so many bytes.
+const ENDING_BYTES: usize = 1_000;
+
+/// Why an entry isn't added to a table.
+#[derive(Clone, Copy, Debug, PartialEq, Eq, Drop)]
+pub enum AddFault {
+    /// The finished table would have more bytes than its kind may have.
+    TooLarge,
+    OutOfMemory,
+}
+
+impl From<AllocError> for AddFault {
+    ghost from_gives = { λ _ fault. fault ≡ OutOfMemory };
+
+    fn from(_error: AllocError) -> AddFault {
+        AddFault::OutOfMemory
+    }
+}
+
+// The internal key of the entry.
+fn internal_key(alloc: Global, entry: EntryRef<'_>) -> Result<Bytes, AllocError>
+    requires { entry.number < 2 ^ 56 }
+    ensures { IfOk result (λ bytes. bytes ≡ internal_key (entry_of entry.entry)) }
+{
+    let kind = match entry.mark {
+        MarkRef::Put(_value) => 1,
+        MarkRef::Gone => 0,
+    };
+    let mut bytes = Bytes::from_slice(alloc, entry.key)?;
+    push_fixed64(&mut bytes, entry.number * 256 + kind)?;
+    Ok(bytes)
+}
+
+// The value that an entry with this mark has in a block.
+fn value_under(mark: MarkRef<'_>) -> &[u8]
+    ensures { result.now ≡ value_under (mark_of mark.entry) }
+{
+    match mark {
+        MarkRef::Put(value) => value,
+        MarkRef::Gone => &[],
+    }
+}
+
+// The table of these data blocks, which are stored one behind the other, and this index block.
+fn whole_table(
+    alloc: Global,
+    kind: TableKind,
+    count: u64,
+    blocks: Bytes,
+    index: &[u8],
+) -> Result<Bytes, AllocError>
+    requires { length blocks + length index.now < 2 ^ 60 }
+    ensures { IfOk result (λ bytes. bytes ≡ table_bytes kind count blocks index.now) }
+{
+    let handle = Handle {
+        offset: blocks.len() as u64,
+        size: index.len() as u64,
+    };
+    let mut out = blocks;
+    push_stored(&mut out, index)?;
+    let ending = ending(alloc, kind, count, out.len() as u64, handle)?;
+    out.extend_from_slice(ending.as_slice())?;
+    Ok(out)
+}
+
+/// A writer of one table. Contracts see what it has so far; `Holds` says which entries these are. That they stand in the
+/// order of the table's kind isn't asked for, but a premise of the law that what was written opens again.
+#[derive(Drop)]
+pub struct TableWriter {
+    kind: TableKind,
+    count: u64,
+    blocks: Bytes,
+    block: BlockWriter,
+    index: BlockWriter,
+}
+
+impl Model for TableWriter {
+    ghost use Rattle.st_table.specs.Written.{IsWriter, Writer};
+
+    ghost Value = { Writer };
+
+    ghost view = { λ writer. record { kind = writer.kind; count = writer.count; blocks = writer.blocks; block = writer.block; index = writer.index } };
+
+    ghost invariant = { λ writer. IsWriter (record { kind = writer.kind; count = writer.count; blocks = writer.blocks; block = writer.block; index = writer.index }) };
+}
+
+impl TableWriter {
+    /// A writer of a table of this kind, without entries.
+    pub fn new(alloc: Global, kind: TableKind) -> Result<TableWriter, AllocError>
+        ensures kind { IfOk result (λ writer. writer.kind ≡ kind) }
+        ensures holds { IfOk result (λ writer. Holds writer []) }
+    {
+        let block = BlockWriter::new(alloc, RESTART_INTERVAL)?;
+        let index = BlockWriter::new(alloc, 1)?;
+        Ok(TableWriter {
+            kind,
+            count: 0,
+            blocks: Bytes::new(alloc),
+            block,
+            index,
+        })
+    }
+
+    // Whether the finished table with an entry of this internal key and value more is within the limit of its kind.
+    fn has_room(&self, alloc: Global, internal: &[u8], value: &[u8]) -> Result<bool, AllocError>
+        requires key { length internal.now ≤ 65543 }
+        requires value { length value.now ≤ 1048576 }
+        ensures { IfOk result (λ yes. yes ≡ nat_le (length (finished_with self.now.kind (self.now.count + 1) self.now.blocks (added_to_block self.now.block internal.now value.now) self.now.index)) (greatest_size self.now.kind)) }
+    {
+        let limit = greatest_size(self.kind) as usize;
+        let size = self.block.finished_size_with(internal, value);
+        let handle = Handle {
+            offset: self.blocks.len() as u64,
+            size: size as u64,
+        };
+        let handle_bytes = handle_bytes(alloc, handle)?;
+        let index_size = self
+            .index
+            .finished_size_with(internal, handle_bytes.as_slice());
+        let index_handle = Handle {
+            offset: (self.blocks.len() + size + TRAILER_BYTES) as u64,
+            size: index_size as u64,
+        };
+        let before = self.blocks.len() + size + TRAILER_BYTES + index_size + TRAILER_BYTES;
+        if before + ENDING_BYTES <= limit {
+            return Ok(true);
+        }
+        let ending = ending(
+            alloc,
+            self.kind,
+            self.count + 1,
+            before as u64,
+            index_handle,
+        )?;
+        Ok(before + ending.len() <= limit)
+    }
+
+    // Puts an entry at the end and closes its block.
+    fn close_with(&mut self, alloc: Global, internal: &[u8], value: &[u8]) -> Result<(), AllocError>
+        requires key { length internal.now ≤ 65543 }
+        requires value { length value.now ≤ 1048576 }
+        requires room { length (finished_with self.old.kind (self.old.count + 1) self.old.blocks (added_to_block self.old.block internal.now value.now) self.old.index) ≤ greatest_size self.old.kind }
+        ensures ok { OnOk result (self.new ≡ with_closed self.old (added_to_block self.old.block internal.now value.now)) }
+        ensures err { OnErr result (self.new ≡ self.old) }
+    {
+        let next = BlockWriter::new(alloc, RESTART_INTERVAL)?;
+        let contents = self.block.finish_with(alloc, internal, value)?;
+        let before = self.blocks.len();
+        let handle = Handle {
+            offset: before as u64,
+            size: contents.len() as u64,
+        };
+        let handle_bytes = handle_bytes(alloc, handle)?;
+        push_stored(&mut self.blocks, contents.as_slice())?;
+        if let Err(error) = self.index.add(internal, handle_bytes.as_slice()) {
+            self.blocks.truncate(before);
+            return Err(error);
+        }
+        self.block = next;
+        self.count += 1;
+        Ok(())
+    }
+
+    // Puts an entry at the end, and closes its block where it has grown large enough.
+    fn put(&mut self, alloc: Global, internal: &[u8], value: &[u8]) -> Result<(), AllocError>
+        requires key { length internal.now ≤ 65543 }
+        requires value { length value.now ≤ 1048576 }
+        requires room { length (finished_with self.old.kind (self.old.count + 1) self.old.blocks (added_to_block self.old.block internal.now value.now) self.old.index) ≤ greatest_size self.old.kind }
+        ensures ok { OnOk result (self.new ≡ with_data_block self.old (added_to_block self.old.block internal.now value.now)) }
+        ensures err { OnErr result (self.new ≡ self.old) }
+    {
+        if self.block.size_with(internal, value) >= BLOCK_BYTES {
+            return self.close_with(alloc, internal, value);
+        }
+        self.block.add(internal, value)?;
+        self.count += 1;
+        Ok(())
+    }
+
+    /// Puts an entry at the end; an error leaves the writer as it was. `TooLarge` comes exactly where the finished table
+    /// would pass the limit of its kind, unless memory runs out before. The work is that of the entry, and of its block
+    /// where that is closed.
+    pub fn add(&mut self, alloc: Global, entry: EntryRef<'_>) -> Result<(), AddFault>
+        requires key { length entry.key.now ≤ 65535 }
+        requires mark { FitsMark (mark_of entry.mark) }
+        requires number { entry.number < 2 ^ 56 }
+        ensures ok { OnOk result (self.new ≡ added self.old (entry_of entry.entry)) }
+        ensures fits { OnOk result (length (finished (added self.old (entry_of entry.entry))) ≤ greatest_size self.old.kind) }
+        ensures too_large { result ≡ Err AddFault.TooLarge → greatest_size self.old.kind < length (finished (added self.old (entry_of entry.entry))) }
+        ensures err { OnErr result (self.new ≡ self.old) }
+    {
+        let internal = internal_key(alloc, entry)?;
+        let value = value_under(entry.mark);
+        if !self.has_room(alloc, internal.as_slice(), value)? {
+            return Err(AddFault::TooLarge);
+        }
+        self.put(alloc, internal.as_slice(), value)?;
+        Ok(())
+    }
+
+    // The table of what was added.
+    fn finished(&self, alloc: Global) -> Result<Bytes, AllocError>
+        ensures value { IfOk result (λ bytes. bytes ≡ finished self.now) }
+        ensures fits { IfOk result (λ bytes. length bytes ≤ greatest_size self.now.kind) }
+    {
+        let mut blocks = Bytes::from_slice(alloc, self.blocks.as_slice())?;
+        if self.block.is_empty() {
+            let index = self.index.finish(alloc)?;
+            return whole_table(alloc, self.kind, self.count, blocks, index.as_slice());
+        }
+        let contents = self.block.finish(alloc)?;
+        let handle = Handle {
+            offset: blocks.len() as u64,
+            size: contents.len() as u64,
+        };
+        let handle_bytes = handle_bytes(alloc, handle)?;
+        let index = self
+            .index
+            .finish_with(alloc, self.block.last_key(), handle_bytes.as_slice())?;
+        push_stored(&mut blocks, contents.as_slice())?;
+        let bytes = whole_table(alloc, self.kind, self.count, blocks, index.as_slice())?;
+        Ok(bytes)
+    }
+    /// The table of what was added. It is within the limit of its kind, and a table with these entries where they are in
+    /// strict order and each may stand in a table of that kind.
+    pub fn finish(&self, alloc: Global) -> Result<Bytes, AllocError>
+        ensures value { IfOk result (λ bytes. bytes ≡ finished self.now) }
+        ensures written { IfOk result (λ bytes. (entries : List Entry) → Holds self.now entries → bytes ≡ written_table self.now.kind entries) }
+        ensures table { IfOk result (λ bytes. (entries : List Entry) → Holds self.now entries → MayBeTable self.now.kind entries → IsTable bytes self.now.kind entries) }
+        ensures fits { IfOk result (λ bytes. length bytes ≤ greatest_size self.now.kind) }
+    {
+        written_table_opens();
+        let bytes = self.finished(alloc)?;
+        Ok(bytes)
+    }
+}
