@@ -95,7 +95,6 @@ behind_fits before line command is = go (nat_lt before 20000) is
     go true e = words_fit (words line) command e
     go false e = absurd (cc e)
 
-
 front_fits : (number : ℕ) (found : Option Command) (others : Result (List Numbered) ℕ) (commands : List Numbered) → ((command : Command) → found ≡ Some command → Fits command) → ((rest : List Numbered) → others ≡ Ok rest → Each (λ (numbered : Numbered). Fits numbered.command) rest)
     → in_front number found others ≡ Ok commands → Each (λ (numbered : Numbered). Fits numbered.command) commands
 front_fits number None others commands first rest is = absurd (cc is)

@@ -58,11 +58,7 @@ fn answer_write<D: Disk>(engine: &mut Engine<D>, batch: &Batch) -> Result<Answer
 }
 
 // Answers a read.
-fn answer_get<D: Disk>(
-    engine: &Engine<D>,
-    family: &Family,
-    key: &Key,
-) -> Result<Answer, AllocError>
+fn answer_get<D: Disk>(engine: &Engine<D>, family: &Family, key: &Key) -> Result<Answer, AllocError>
     ensures { IfOk result (λ answer. (state : ModelState) → Stands engine.now.store state → (answer.place ≡ state.place) × (answer.reply ≡ get_answer state state.last family.now key.now)) }
 {
     let place = engine.place();
@@ -83,7 +79,10 @@ fn answer_get<D: Disk>(
 }
 
 /// Answers a command, which is within the limits of a write. After want of memory the engine isn't used again.
-pub fn answer_command<D: Disk>(engine: &mut Engine<D>, command: &Command) -> Result<Answer, AllocError>
+pub fn answer_command<D: Disk>(
+    engine: &mut Engine<D>,
+    command: &Command,
+) -> Result<Answer, AllocError>
     requires limits { Fits command.now }
     requires tied { IsHonest (D.tells engine.old.disk) → engine.old.stopped ≡ None → IsTied engine.old.wal engine.old.store (D.tells engine.old.disk) }
     ensures steps { IfOk result (λ answer. (state : ModelState) → Stands engine.old.store state → Steps engine.old.store engine.new.store engine.old.stopped engine.new.stopped (D.tells engine.old.disk) (D.tells engine.new.disk) state (call_of command.now answer)) }

@@ -32,7 +32,9 @@ fn words_of<R: Env + AllocGlobal>(rt: &R) -> io::Result<Vec<String>> {
 }
 
 // Runs the words over the working folder and standard output.
-fn run_here<R: Files<File = File> + Print + Env + AllocGlobal + Clone + Drop>(rt: &R) -> io::Result<Status> {
+fn run_here<R: Files<File = File> + Print + Env + AllocGlobal + Clone + Drop>(
+    rt: &R,
+) -> io::Result<Status> {
     let words = words_of(rt)?;
     let mut inputs = FolderInputs::new(rt.clone()?);
     let mut sink = StdSink::new(rt.clone()?);

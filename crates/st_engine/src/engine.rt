@@ -57,11 +57,7 @@ impl<D: Disk> Engine<D> {
 
     /// Opens the store of a disk, or makes it where it isn't there. Every refusal hands the disk back. `Damaged` comes
     /// exactly where the disk reads a store that is damaged; a fault of the disk or want of memory may come in its place.
-    pub fn open(
-        alloc: Global,
-        mut disk: D,
-        options: Options,
-    ) -> Result<Engine<D>, (D, OpenFault)>
+    pub fn open(alloc: Global, mut disk: D, options: Options) -> Result<Engine<D>, (D, OpenFault)>
         // The store stands for the state that an opening makes of the contents that the disk reads.
         ensures opened { IfOk result (λ engine. IsOpened (D.tells disk) options.behind engine.store) }
         ensures tied { IfOk result (λ engine. IsHonest (D.tells disk) → IsTied engine.wal engine.store (D.tells engine.disk)) }

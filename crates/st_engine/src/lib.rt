@@ -10,6 +10,8 @@ mod engine;
 mod newest;
 mod ops;
 mod store;
+#[cfg(test)]
+mod tests;
 
 pub use engine::{Engine, Options, Wrote};
 pub use st_recover::OpenFault;

@@ -55,13 +55,7 @@ fn kept_mark(behind: bool, mark: Mark) -> Option<Mark>
 {
     match mark {
         Mark::Put(value) => Some(Mark::Put(value)),
-        Mark::Gone => {
-            if behind {
-                Some(Mark::Gone)
-            } else {
-                None
-            }
-        }
+        Mark::Gone => { if behind { Some(Mark::Gone) } else { None } }
     }
 }
 

@@ -3,3 +3,4 @@ pub mod Grow
 pub mod Places
 pub mod ReadAfter
 pub mod WriteAnswers
+pub mod Ranges

@@ -1,9 +1,10 @@
-ghost use Rattle.std.specs.Prelude.{◌≡◌, [], OnOk, OnErr, IfOk};
+ghost use Rattle.std.specs.Prelude.{◌≡◌, ◌++◌, ◌∷◌, [], OnOk, OnErr, IfOk, map};
 ghost use Rattle.std.specs.Option.{option_copied};
 ghost use Rattle.st_base.specs.Bytes.{default_family};
 ghost use Rattle.st_base.specs.Map.{value_at, set_at};
+ghost use Rattle.st_model.specs.Contents.{as_entry, kept_marks};
 
-use st_base::{Entries, Family, Key, KeyRange, List, MakeFault, Mark};
+use st_base::{Entries, Entry, Family, Key, KeyRange, List, MakeFault, Mark};
 use std::alloc::{AllocError, Global};
 use std::collections::BTreeMap;
 use std::marker::Model;
@@ -55,6 +56,35 @@ impl Marks {
         self.map.insert(key, mark)?;
         Ok(())
     }
+
+    /// The keys with the marks that contents keep, in key order, under the number 0.
+    pub fn kept(&self, alloc: Global, behind: bool) -> Result<Entries, AllocError>
+        ensures { IfOk result (λ entries. entries ≡ map as_entry (kept_marks behind self.now)) }
+    {
+        let mut entries = List::new(alloc);
+        for (key, mark) in self.map.iter() {
+            push_kept(&mut entries, behind, key, mark)?;
+        }
+        Ok(entries)
+    }
+}
+
+// Puts the key with its mark at the end, where contents keep it.
+fn push_kept(entries: &mut Entries, behind: bool, key: &Key, mark: &Mark) -> Result<(), AllocError>
+    ensures { OnOk result (entries.new ≡ entries.old ++ map as_entry (kept_marks behind ((key.now, mark.now) ∷ []))) }
+{
+    let keeps = match mark {
+        Mark::Put(_) => true,
+        Mark::Gone => behind,
+    };
+    if keeps {
+        entries.push(Entry {
+            key: key.clone()?,
+            number: 0,
+            mark: mark.clone()?,
+        })?;
+    }
+    Ok(())
 }
 
 impl Clone for Marks {

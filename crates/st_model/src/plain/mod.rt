@@ -4,6 +4,7 @@
 
 mod applies;
 mod histories;
+mod kept;
 mod legals;
 mod parts;
 mod reads;
@@ -11,6 +12,7 @@ mod replies;
 
 pub use applies::apply;
 pub use histories::history;
+pub use kept::contents;
 pub use legals::legal;
 pub use reads::read;
 pub use replies::reply;

@@ -267,3 +267,12 @@ fn base_is_read(rt: HostRuntime) -> Result<(), Fail> {
     assert!(rt; read(&family, 0, &key)?.is_some());
     Ok(())
 }
+
+#[test]
+fn a_new_store_has_one_family(rt: HostRuntime) -> Result<(), Fail> {
+    let state = ModelState::new_store(rt.alloc())?;
+    let left = contents(rt.alloc(), &state)?;
+    assert_eq!(rt; left.last, 0);
+    assert_eq!(rt; left.families.len(), 1);
+    Ok(())
+}

@@ -1,4 +1,4 @@
-use Rattle.std.proofs.Common.{◌≡◌, drop, map}
+use Rattle.std.proofs.Common.{drop, map}
 use Rattle.std.specs.Prelude.{◌↔◌}
 use Rattle.st_model.specs.declared.command.Call.{Call}
 use Rattle.st_model.specs.Legal.{AreNext}

@@ -1,5 +1,4 @@
-use Rattle.std.proofs.Common.{◌≡◌, drop, map, filter, not, []}
-use Rattle.std.specs.List.{slice_get}
+use Rattle.std.proofs.Common.{◌≡◌, drop, map, filter, not}
 use Rattle.st_model.specs.State.{has_family}
 use Rattle.st_model.specs.Apply.{op_family}
 use Rattle.st_model.proofs.plain.replies.first_unknown.Given as goal

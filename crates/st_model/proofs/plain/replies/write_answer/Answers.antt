@@ -1,9 +1,6 @@
-use Rattle.std.proofs.Common.{◌≡◌, ◌+◌, ◌<◌, ◌≤◌, length, ap, sym, ◌∙◌, arith}
-use Rattle.st_base.specs.Entries.{add_charge}
+use Rattle.std.proofs.Common.{◌≡◌, ◌+◌, length, ap, sym, ◌∙◌, arith}
 use Rattle.st_model.specs.declared.refusal.Refusal.TheVariants.{UnknownFamily}
 use Rattle.st_model.specs.declared.reply.Reply.TheVariants.{Written, Refused}
-use Rattle.st_model.specs.State.{greatest_number}
-use Rattle.st_model.specs.Apply.{write_charge}
 use Rattle.st_model.proofs.WriteAnswers.{write_answer-unknown, write_answer-last_spent, write_answer-place_spent, write_answer-full, write_answer-written}
 use Rattle.st_model.proofs.plain.replies.write_answer.Goals as goal
 
