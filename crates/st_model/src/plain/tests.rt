@@ -1,6 +1,6 @@
 use crate::change::{Batch, Change, Op};
 use crate::command::{Asked, Call, Calls, Command};
-use crate::plain::{apply, history, legal, read, reply};
+use crate::plain::{apply, contents, history, legal, read, reply};
 use crate::refusal::Refusal;
 use crate::reply::Reply;
 use crate::state::{Marks, ModelFamily, ModelState};
