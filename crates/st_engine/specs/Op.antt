@@ -1,5 +1,5 @@
 -- What the operations of a write are to the engine.
-use Rattle.std.specs.Prelude.{ℕ, Bool, not, ◌≤◌, length, List, [], ◌∷◌, map, filter, fold, slice_get, Option, Some, None, if◌then◌else◌}
+use Rattle.std.specs.Prelude.{ℕ, not, ◌≤◌, length, List, map, filter, fold, Option, Some, if◌then◌else◌}
 use Rattle.st_base.specs.Bytes.{same, default_family}
 use Rattle.st_base.specs.declared.entry.Mark.{Mark}
 use Rattle.st_model.specs.declared.change.Op.{Op}
@@ -7,12 +7,12 @@ use Rattle.st_model.specs.Apply.{op_family, op_key, op_mark}
 use Rattle.st_wal.specs.Batch.{Operation, operations_size}
 
 -- the marks after the operation
-abbrev pub marks_after : (List ℕ → Option Mark) → Op → List ℕ → Option Mark
-marks_after marks op key = if same (op_key op) key then Some (op_mark op) else marks key
+abbrev pub marks_after : (List ℕ → Option Mark) → Operation → List ℕ → Option Mark
+marks_after marks operation key = if same operation.1 key then Some operation.2 else marks key
 
 -- the marks after the operations
-abbrev pub marks_after_all : (List ℕ → Option Mark) → List Op → List ℕ → Option Mark
-marks_after_all marks ops = fold marks_after marks ops
+abbrev pub marks_after_all : (List ℕ → Option Mark) → List Operation → List ℕ → Option Mark
+marks_after_all marks operations = fold marks_after marks operations
 
 -- the names that aren't `default`
 abbrev pub strange_names : List (List ℕ) → List (List ℕ)

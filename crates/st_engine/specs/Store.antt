@@ -1,7 +1,7 @@
 -- The store in memory, and the states of the model that it stands for.
-use Rattle.std.specs.Prelude.{ℕ, ◌≡◌, ◌≤◌, List, [], ◌∷◌, ◌++◌, map, slice_get, Bool, Option, Some, None}
+use Rattle.std.specs.Prelude.{ℕ, ◌≡◌, ◌+◌, ◌≤◌, List, [], ◌∷◌, slice_get, Option, Some, None, ⊤}
 use Rattle.std.specs.List.{AllByRecursion as Each}
-use Rattle.std.specs.List.Sorted.{IsStrictlySortedBy}
+use Rattle.std.specs.declared.cmp.Ordering.TheVariants.{Less}
 use Rattle.std.specs.Map.{keys_of}
 use Rattle.st_base.specs.Bytes.{bytes_cmp, default_family}
 use Rattle.st_base.specs.Map.{value_at}
@@ -15,12 +15,16 @@ use Rattle.st_recover.specs.Contents.{written_marks}
 use Rattle.st_recover.specs.Opens.{last_number}
 use Rattle.st_wal.specs.declared.logged.Logged.{Logged}
 use Rattle.st_engine.specs.Newest.{newest_at, shown}
-use Rattle.st_engine.specs.declared.newest.Newest.{Newest}
 use Rattle.st_engine.specs.declared.store.Store.{Store}
+
+-- each key is below those behind it
+abbrev pub AreRising : List (List ℕ) → Type 0
+AreRising [] = ⊤
+AreRising (key ∷ keys) = Each (λ other. bytes_cmp key other ≡ Less) keys × AreRising keys
 
 -- the pairs stand in the order of their keys, each key once
 abbrev pub IsSorted : List (List ℕ × Mark) → Type 0
-IsSorted pairs = IsStrictlySortedBy bytes_cmp (keys_of pairs)
+IsSorted pairs = AreRising (keys_of pairs)
 
 -- no write of the family is above the number, and the newest mark of each key is this
 pub record HasMarks (marks : List ℕ → Option Mark) (family : ModelFamily) (last : ℕ) : Type 0 where
@@ -44,6 +48,27 @@ pub record Stands (store : Store) (state : ModelState) : Type 0 where
 pub record Holds (store : Store) (ops : List Logged) : Type 0 where
   pub last : store.last ≡ last_number 0 ops
   pub marks : (key : List ℕ) → shown store.behind (newest_at store.newest key) ≡ shown store.behind (value_at (written_marks ops) key)
+
+-- place, number, charge, flag and capacity are the same
+pub record HasSameNumbers (old new : Store) : Type 0 where
+  pub place : new.place ≡ old.place
+  pub last : new.last ≡ old.last
+  pub charge : new.charge ≡ old.charge
+  pub behind : new.behind ≡ old.behind
+  pub capacity : new.capacity ≡ old.capacity
+
+-- so are the marks
+pub record IsSameStore (old new : Store) : Type 0 where
+  pub numbers : HasSameNumbers old new
+  pub marks : (key : List ℕ) → newest_at new.newest key ≡ newest_at old.newest key
+
+-- one change more, of so many operations, which makes the charge this sum
+pub record IsAdvanced (old new : Store) (count sum : ℕ) : Type 0 where
+  pub place : new.place ≡ old.place + 1
+  pub last : new.last ≡ old.last + count
+  pub charge : new.charge ≡ sum
+  pub behind : new.behind ≡ old.behind
+  pub capacity : new.capacity ≡ old.capacity
 
 -- the first of the refusals that hold is this one, or none of them holds; a fault and want of memory aren't among them
 abbrev pub IsFirst : List Refusal → Refusal → Type 0

@@ -1,13 +1,18 @@
-// A library with one function.
+//! The engine: a store on a disk, whose accepted writes outlive a stop.
+//!
+//! A write is logged and synced before it is answered, so each image of a crash within it opens to the contents from
+//! before it or after it, and after Ok to the latter. A layer above speaks of the states of the list model: the engine
+//! stands for a state (`Stands`), each call answers as the model does there, and images are told by the contents that
+//! are left of a state.
 #![tactic(auto)]
 
-ghost use Rattle.std.specs.Prelude.{◌≡◌};
-ghost use Rattle.st_engine.specs.Echo.{echo_of};
+mod engine;
+mod newest;
+mod ops;
+mod store;
 
-// The `ensures` clause is the contract: what `echo` returns is `echo_of` of its argument, a definition
-// in `specs/Echo.antt`, which a caller's clause can cite too.
-pub fn echo(x: usize) -> usize
-    ensures { result ≡ echo_of x }
-{
-    x
-}
+pub use engine::{Engine, Options, Wrote};
+pub use st_recover::OpenFault;
+
+/// Why a change isn't made.
+pub type ChangeFault = st_model::Refusal;

@@ -1,23 +1,25 @@
 // The store in memory.
-ghost use Rattle.std.specs.Prelude.{◌≡◌, ◌+◌, ◌≤◌, ◌<◌, ◌∷◌, [], ℕ, List, length, map, slice_get, All, IfErr, IfOk, IfSome, IfNone, IsFalse, OnErr, OnOk, None, Some, Ok};
-ghost use Rattle.st_base.specs.Entries.{add_charge};
+ghost use Rattle.std.specs.Prelude.{◌≡◌, ◌+◌, ◌≤◌, ◌<◌, ◌∷◌, [], ℕ, List, length, map, slice_get, IfErr, IfOk, IfNone, IfSome, OnOk, false, None, Some};
+ghost use Rattle.std.specs.List.{AllByRecursion as Each};
 ghost use Rattle.st_base.specs.Map.{value_at};
 ghost use Rattle.st_model.specs.declared.state.ModelState.{ModelState};
-ghost use Rattle.st_model.specs.declared.change.Change.TheVariants as change;
-ghost use Rattle.st_model.specs.Answer.{get_answer, write_refusals, unknown_families, read_in};
-ghost use Rattle.st_model.specs.Apply.{apply, op_key, write_charge};
+ghost use Rattle.st_model.specs.Answer.{found, get_answer, unknown_families, write_refusals};
+ghost use Rattle.st_base.specs.Entries.{add_charge};
+ghost use Rattle.st_model.specs.Apply.{op_key, write_charge};
+ghost use Rattle.st_model.specs.Legal.{is_stop};
 ghost use Rattle.st_model.specs.Contents.{opened};
 ghost use Rattle.st_recover.specs.Contents.{contents_of, known_of, written_marks};
 ghost use Rattle.st_recover.specs.Opens.{last_number};
 ghost use Rattle.st_engine.specs.Newest.{HasRoom, newest_at, shown};
-ghost use Rattle.st_engine.specs.Op.{logged_op, marks_after_all};
+ghost use Rattle.st_engine.specs.Op.{IsWrite, logged_op, marks_after_all};
+ghost use Rattle.st_wal.specs.Batch.{batch_of};
 
 use crate::newest::Newest;
-use crate::ops::{charge_with, first_stranger, key_of};
-use crate::{ChangeFault, Options};
+use crate::ops::{charge_with, first_stranger, logged_ops};
+use crate::{ChangeFault, Options, Wrote};
 use st_base::{Family, Key, List, Mark, Value};
-use st_model::{Op, Refusal};
-use st_wal::{Logged, Operation};
+use st_model::{Op, Refusal, Reply};
+use st_wal::{LogRecord, Logged, Operation};
 use std::alloc::{AllocError, Global};
 
 /// The greatest sequence number and the greatest place: 2^56 - 1.
@@ -35,6 +37,15 @@ pub struct Store {
     pub charge: u64,
     pub behind: bool,
     pub capacity: u64,
+}
+
+/// A write with all that it needs of memory.
+#[derive(Drop)]
+pub struct Prepared {
+    pub record: LogRecord,
+    pub ops: Vec<Operation>,
+    /// The store's charge with that of the write.
+    pub charge: u64,
 }
 
 // The mark, where the contents keep it.
@@ -59,8 +70,9 @@ fn newest_of(alloc: Global, operations: List<Logged>, behind: bool) -> Result<Ne
 {
     let mut newest = Newest::new(alloc);
     for logged in operations.into_vec() {
-        newest.make_room(&logged.key)?;
-        newest.set(&logged.key, kept_mark(behind, logged.mark));
+        let Logged { key, mark, .. } = logged;
+        newest.make_room(&key)?;
+        newest.set(&key, kept_mark(behind, mark));
     }
     Ok(newest)
 }
@@ -69,14 +81,15 @@ fn newest_of(alloc: Global, operations: List<Logged>, behind: bool) -> Result<Ne
 fn last_of(operations: &[Logged]) -> u64
     ensures { result ≡ last_number 0 operations.now }
 {
-    match operations.last() {
-        Some(logged) => logged.number,
-        None => 0,
+    let mut last = 0;
+    for logged in operations {
+        last = logged.number;
     }
+    last
 }
 
 impl Store {
-    ghost use Rattle.st_engine.specs.Store.{Holds, Stands};
+    ghost use Rattle.st_engine.specs.Store.{Holds, IsAdvanced, IsFirst, IsSameStore, Stands};
 
     /// The store with these operations.
     pub fn open(
@@ -101,8 +114,9 @@ impl Store {
         })
     }
 
-    /// The first refusal that holds of a write.
-    pub fn first_refusal(&self, ops: &[Op]) -> Result<Option<Refusal>, AllocError>
+    // The first refusal that holds of a write.
+    fn first_refusal(&self, ops: &[Op]) -> Result<Option<Refusal>, AllocError>
+        ensures no_stop { IfOk result (λ refusal. IfSome refusal (λ refusal. is_stop (Reply.Refused refusal) ≡ false)) }
         ensures room { IfOk result (λ refusal. IfNone refusal ((self.now.last + length ops.now ≤ GREATEST_NUMBER) × (self.now.place < GREATEST_NUMBER))) }
         ensures first { IfOk result (λ refusal. (state : ModelState) → Stands self.now state → refusal ≡ slice_get (write_refusals state self.now.capacity ops.now) 0) }
     {
@@ -119,5 +133,77 @@ impl Store {
             return Ok(Some(Refusal::StoreFull));
         }
         Ok(None)
+    }
+
+    /// What the key reads. The one refusal of the store's own is that of a family that isn't there.
+    pub fn read(&self, family: &Family, key: &Key) -> Result<Option<Value>, ChangeFault>
+        ensures ok { IfOk result (λ value. (state : ModelState) → Stands self.now state → get_answer state state.last family.now key.now ≡ found value) }
+        ensures refused { IfErr result (λ refusal. (state : ModelState) → Stands self.now state → IsFirst (unknown_families state (family.now ∷ [])) refusal) }
+        ensures no_stop { IfErr result (λ refusal. is_stop (Reply.Refused refusal) ≡ false) }
+    {
+        if !family.is_default() {
+            return Err(Refusal::UnknownFamily(family.clone()?));
+        }
+        match self.newest.get(key) {
+            Some(Mark::Put(value)) => Ok(Some(value.clone()?)),
+            Some(Mark::Gone) => Ok(None),
+            None => Ok(None),
+        }
+    }
+
+    // Makes a place for the mark of each key that the operations name. Nothing else changes, with every answer.
+    fn make_room(&mut self, ops: &[Op]) -> Result<(), AllocError>
+        ensures same { IsSameStore self.old self.new }
+        ensures room { OnOk result (Each (λ op. HasRoom self.new.newest (op_key op)) ops.now) }
+    {
+        self.newest.make_rooms(ops)
+    }
+
+    /// Tests a write, and takes all the memory that it needs. What the store stands for stays, with every answer.
+    pub fn prepare(&mut self, alloc: Global, ops: &[Op]) -> Result<Prepared, ChangeFault>
+        requires { IsWrite ops.now }
+        ensures same { IsSameStore self.old self.new }
+        ensures record { IfOk result (λ prepared. batch_of prepared.record ≡ Some (record { first = self.old.last + 1; operations = map logged_op ops.now })) }
+        ensures ops { IfOk result (λ prepared. prepared.ops.items ≡ map logged_op ops.now) }
+        ensures room { IfOk result (λ prepared. Each (λ operation. HasRoom self.new.newest operation.1) prepared.ops.items) }
+        ensures charge { IfOk result (λ prepared. prepared.charge ≡ add_charge self.old.charge (write_charge ops.now)) }
+        ensures last { OnOk result (self.new.last + length ops.now ≤ GREATEST_NUMBER) }
+        ensures place { OnOk result (self.new.place < GREATEST_NUMBER) }
+        ensures unrefused { OnOk result ((state : ModelState) → Stands self.old state → slice_get (write_refusals state self.old.capacity ops.now) 0 ≡ None) }
+        ensures refused { IfErr result (λ refusal. (state : ModelState) → Stands self.old state → IsFirst (write_refusals state self.old.capacity ops.now) refusal) }
+        ensures no_stop { IfErr result (λ refusal. is_stop (Reply.Refused refusal) ≡ false) }
+    {
+        if let Some(refusal) = self.first_refusal(ops)? {
+            return Err(refusal);
+        }
+        let logged = logged_ops(alloc, ops)?;
+        self.make_room(ops)?;
+        let record = LogRecord::new(alloc, self.last + 1, &logged)?;
+        Ok(Prepared {
+            record,
+            ops: logged,
+            charge: charge_with(self.charge, ops),
+        })
+    }
+
+    /// Takes a write in, whose operations are on the disk. It takes no memory.
+    pub fn accept(&mut self, operations: Vec<Operation>, charge: u64) -> Wrote
+        requires room { Each (λ operation. HasRoom self.old.newest operation.1) operations.items }
+        requires last { self.old.last + length operations.items ≤ GREATEST_NUMBER }
+        requires place { self.old.place < GREATEST_NUMBER }
+        ensures marks { (key : List ℕ) → newest_at self.new.newest key ≡ marks_after_all (newest_at self.old.newest) operations.items key }
+        ensures numbers { IsAdvanced self.old self.new (length operations.items) charge }
+        ensures wrote { result ≡ record { place = self.new.place; first = self.old.last + 1; last = self.new.last } }
+    {
+        let first = self.last + 1;
+        self.charge = charge;
+        self.last += operations.len() as u64;
+        self.place += 1;
+        self.newest.set_all(operations);
+        Wrote {
+            place: self.place,
+            first,
+            last: self.last,
+        }
     }
 }

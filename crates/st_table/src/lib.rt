@@ -27,6 +27,8 @@ mod kind;
 mod laws;
 mod metaindex;
 mod properties;
+#[cfg(test)]
+mod rocksdb_tests;
 mod stored;
 mod stored_bytes;
 mod table;
