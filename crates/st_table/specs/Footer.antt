@@ -2,7 +2,8 @@
 --
 --   checksum type | metaindex handle | index handle | padding to 41 bytes | version (fixed32) | magic number (fixed64)
 --
--- Of RocksDB's block-based table, format version 2. A handle is two varint64, the offset of a block and its size.
+-- Of RocksDB's block-based table, format version 2. A handle is two varint64, the offset of a block and its size: 20 bytes
+-- at most, so that two of them end before the version. The padding isn't looked at.
 use Rattle.std.specs.Prelude.{ℕ, ◌+◌, ◌-◌, Bool, not, ◌==◌, nat_lt, nat_le, List, length, drop, slice_index, Option, Some, None, option_and_then, Result, Ok, Err, if◌then◌else◌}
 use Rattle.std.specs.Int.{w32, w64, from_le_bytes}
 use Rattle.std.specs.Result.{result_ok}

@@ -1,6 +1,7 @@
 use crate::{AddFault, OpenTableFault, Table, TableKind, TableWriter, table_or_first_fault};
 use st_base::{
-    BlockFault, Bytes, EntryRef, KEY_BYTES, MarkRef, Rows, Scratch, TableFault, VALUE_BYTES,
+    BlockFault, Bytes, EntryRef, KEY_BYTES, MarkRef, Rows, Scratch, TableFault as Fault,
+    VALUE_BYTES,
 };
 use st_code::crc32c;
 use std::alloc::{AllocError, Global};
@@ -33,85 +34,54 @@ static ONE: [u8; 327] = [
     0xcf, 0xf4, 0x85, 0xb7, 0x41, 0xe2, 0x88,
 ];
 
+const EXTERNAL: TableKind = TableKind::External;
+
+const OWN: TableKind = TableKind::Own;
+
 type Case = (
     usize,
     &'static [u8],
     usize,
     &'static [u8],
     TableKind,
-    Option<TableFault>,
+    Option<Fault>,
 );
 
 // What is put at a place of that table, the block's sum that is made new at another, and the fault that is found.
 static CASES: [Case; 26] = [
     // Nothing changed.
-    (0, b"", 0, b"", TableKind::External, None),
+    (0, b"", 0, b"", EXTERNAL, None),
     // The same bytes as an own table.
-    (0, b"", 0, b"", TableKind::Own, None),
+    (0, b"", 0, b"", OWN, None),
     // Padding of the footer.
-    (290, b"U", 0, b"", TableKind::External, None),
+    (290, b"U", 0, b"", EXTERNAL, None),
     // Magic number.
-    (
-        326,
-        b"\x87",
-        0,
-        b"",
-        TableKind::External,
-        Some(TableFault::Magic),
-    ),
+    (326, b"\x87", 0, b"", EXTERNAL, Some(Fault::Magic)),
     // Version.
-    (
-        315,
-        b"\x03",
-        0,
-        b"",
-        TableKind::External,
-        Some(TableFault::Version(3)),
-    ),
+    (315, b"\x03", 0, b"", EXTERNAL, Some(Fault::Version(3))),
     // Checksum type.
-    (
-        274,
-        b"\x04",
-        0,
-        b"",
-        TableKind::External,
-        Some(TableFault::Checksum(4)),
-    ),
+    (274, b"\x04", 0, b"", EXTERNAL, Some(Fault::Checksum(4))),
     // Metaindex handle points out of the file.
-    (
-        276,
-        b"\xff",
-        0,
-        b"",
-        TableKind::External,
-        Some(TableFault::Handle(275)),
-    ),
+    (276, b"\xff", 0, b"", EXTERNAL, Some(Fault::Handle(275))),
     // Index handle reaches into the footer.
     (
         278,
         b"\x1a\xf4\x01",
         0,
         b"",
-        TableKind::External,
-        Some(TableFault::Handle(278)),
+        EXTERNAL,
+        Some(Fault::Handle(278)),
     ),
     // Compression type.
-    (
-        21,
-        b"\x01",
-        0,
-        b"",
-        TableKind::External,
-        Some(TableFault::Compressed(0)),
-    ),
+    (21, b"\x01", 0, b"", EXTERNAL, Some(Fault::Compressed(0))),
     // Value.
     (
         12,
         b"2",
         0,
         b"",
-        TableKind::External,
-        Some(TableFault::Sum {
+        EXTERNAL,
+        Some(Fault::Sum {
             at: 0,
             stored: 3276478267,
             found: 2004322086,
@@ -123,8 +93,8 @@ static CASES: [Case; 26] = [
         b"\xff\xff\xff\xff",
         22,
         b"2\x14\x88\x8e",
-        TableKind::External,
-        Some(TableFault::Block(0, BlockFault::Restarts)),
+        EXTERNAL,
+        Some(Fault::Block(0, BlockFault::Restarts)),
     ),
     // Range deletions.
     (
@@ -132,8 +102,8 @@ static CASES: [Case; 26] = [
         b"\x00\x11\x04rocksdb.range_del",
         270,
         b"Uq|+",
-        TableKind::External,
-        Some(TableFault::RangeDel),
+        EXTERNAL,
+        Some(Fault::RangeDel),
     ),
     // No properties.
     (
@@ -141,8 +111,8 @@ static CASES: [Case; 26] = [
         b"S",
         270,
         b"O\xdf{\xc2",
-        TableKind::External,
-        Some(TableFault::NoProperties),
+        EXTERNAL,
+        Some(Fault::NoProperties),
     ),
     // Properties handle has a byte behind it.
     (
@@ -150,8 +120,8 @@ static CASES: [Case; 26] = [
         b"53\x00",
         270,
         b"\x15\x8bm3",
-        TableKind::External,
-        Some(TableFault::Handle(258)),
+        EXTERNAL,
+        Some(Fault::Handle(258)),
     ),
     // External version 1.
     (
@@ -159,19 +129,19 @@ static CASES: [Case; 26] = [
         b"\x01",
         233,
         b"\x09i\xfa\x05",
-        TableKind::External,
-        Some(TableFault::ExternalVersion(Some(1))),
+        EXTERNAL,
+        Some(Fault::ExternalVersion(Some(1))),
     ),
     // External version 1 of an own table.
-    (185, b"\x01", 233, b"\x09i\xfa\x05", TableKind::Own, None),
+    (185, b"\x01", 233, b"\x09i\xfa\x05", OWN, None),
     // No external version.
     (
         184,
         b"m",
         233,
         b"\xe0\x96\x04\xe7",
-        TableKind::External,
-        Some(TableFault::ExternalVersion(None)),
+        EXTERNAL,
+        Some(Fault::ExternalVersion(None)),
     ),
     // Comparator.
     (
@@ -179,8 +149,8 @@ static CASES: [Case; 26] = [
         b"L",
         233,
         b"\xb2\xdaB\x83",
-        TableKind::External,
-        Some(TableFault::Comparator),
+        EXTERNAL,
+        Some(Fault::Comparator),
     ),
     // Index type of eight bytes.
     (
@@ -188,8 +158,8 @@ static CASES: [Case; 26] = [
         b"\x00$\x08rocksdb.block.based.table.index.type\x00\x00\x00\x00\x00\x00\x00\x00",
         233,
         b"C\xd0\xfe\xd4",
-        TableKind::External,
-        Some(TableFault::IndexKind),
+        EXTERNAL,
+        Some(Fault::IndexKind),
     ),
     // Index key before the last key.
     (
@@ -197,8 +167,8 @@ static CASES: [Case; 26] = [
         b"`",
         49,
         b"\xe3\x18\x11\x9a",
-        TableKind::External,
-        Some(TableFault::Index(0)),
+        EXTERNAL,
+        Some(Fault::Index(0)),
     ),
     // Index key of number 2^56-1 and kind 22.
     (
@@ -206,7 +176,7 @@ static CASES: [Case; 26] = [
         b"b\x16\xff\xff\xff\xff\xff\xff\xff",
         49,
         b"$\xaeu\xb8",
-        TableKind::External,
+        EXTERNAL,
         None,
     ),
     // Data handle doesn't parse.
@@ -215,8 +185,8 @@ static CASES: [Case; 26] = [
         b"\xff\xff",
         49,
         b"\x84\x1b\\\xd5",
-        TableKind::External,
-        Some(TableFault::Handle(38)),
+        EXTERNAL,
+        Some(Fault::Handle(38)),
     ),
     // Kind 2.
     (
@@ -224,8 +194,8 @@ static CASES: [Case; 26] = [
         b"\x02",
         22,
         b"\xed\xf9\xb4\xce",
-        TableKind::External,
-        Some(TableFault::Kind(0, 2)),
+        EXTERNAL,
+        Some(Fault::Kind(0, 2)),
     ),
     // Tombstone with a value.
     (
@@ -233,8 +203,8 @@ static CASES: [Case; 26] = [
         b"\x00",
         22,
         b"\x89\x1d!\xc7",
-        TableKind::External,
-        Some(TableFault::Kind(0, 0)),
+        EXTERNAL,
+        Some(Fault::Kind(0, 0)),
     ),
     // Number 1.
     (
@@ -242,11 +212,11 @@ static CASES: [Case; 26] = [
         b"\x01",
         22,
         b"\x82~\xf9:",
-        TableKind::External,
-        Some(TableFault::Number(0, 1)),
+        EXTERNAL,
+        Some(Fault::Number(0, 1)),
     ),
     // Number 1 of an own table.
-    (5, b"\x01", 22, b"\x82~\xf9:", TableKind::Own, None),
+    (5, b"\x01", 22, b"\x82~\xf9:", OWN, None),
 ];
 
 // The length of the table of 22 entries, its sum, and where its footer's padding begins, as another writer made it.
@@ -275,7 +245,7 @@ fn opened(
     alloc: Global,
     text: Vec<u8>,
     kind: TableKind,
-) -> Result<Result<Table, TableFault>, AllocError> {
+) -> Result<Result<Table, Fault>, AllocError> {
     let bytes = Arc::new(alloc, Bytes::from(text))?;
     match Table::open(alloc, bytes, kind, 0) {
         Ok(table) => Ok(Ok(table)),
@@ -285,7 +255,7 @@ fn opened(
 }
 
 // The fault of the table with a case's changes.
-fn fault_of(alloc: Global, case: &Case) -> Result<Option<TableFault>, AllocError> {
+fn fault_of(alloc: Global, case: &Case) -> Result<Option<Fault>, AllocError> {
     let mut text = Vec::from_slice(alloc, &ONE)?;
     patch(&mut text, case.0, case.1);
     patch(&mut text, case.2, case.3);
@@ -359,8 +329,7 @@ fn are_same(alloc: Global, one: &Table, other: &Table) -> Result<bool, AllocErro
     Ok(true)
 }
 
-// How many of nine changes of the byte at the place, each of its bits and all of them, are accepted, and whether all that
-// are have the entries before.
+// How many of the changes of the byte at the place are accepted, and whether all that are have the entries before.
 fn changes_accepted(
     alloc: Global,
     text: &[u8],
@@ -369,7 +338,7 @@ fn changes_accepted(
 ) -> Result<(u32, bool), AllocError> {
     let mut accepted = 0u32;
     let mut are_all = true;
-    for change in [1u8, 2, 4, 8, 16, 32, 64, 128, 255] {
+    for change in 1..=255u8 {
         let mut changed = Vec::from_slice(alloc, text)?;
         if place < changed.len() {
             changed[place] ^= change;
@@ -398,7 +367,7 @@ fn cuts_accepted(alloc: Global, text: &[u8]) -> Result<usize, AllocError> {
 // makes its varint one byte longer.
 fn unseen_changes(place: usize) -> u32 {
     if (PADDING..LENGTH - 12).contains(&place) {
-        return 9;
+        return 255;
     }
     if place == PADDING - 1 { 1 } else { 0 }
 }
