@@ -137,7 +137,7 @@ fn a_second_run_reads_the_first(rt: HostRuntime) -> Result<(), Fail> {
 // A mark without a log.
 #[test]
 fn a_store_without_its_log_is_damaged(rt: HostRuntime) -> Result<(), Fail> {
-    let mut disk = disk(rt.alloc(), 0)?;
+    let mut disk = MemDisk::new(rt.alloc(), Vec::new(rt.alloc()));
     disk.create(1)?;
     let status = Status::Damaged;
     let _ = expect(&rt, "run one", ROW, disk, status, "damaged 3 0\n")?;
