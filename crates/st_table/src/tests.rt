@@ -267,6 +267,10 @@ fn faults_are_found(rt: HostRuntime) -> Result<(), Fail> {
     for case in CASES.iter() {
         assert_eq!(rt; fault_of(rt.alloc(), case)?, case.5, "at {}", case.0);
     }
+    // Without its last 300 bytes.
+    let cut = Vec::from_slice(rt.alloc(), &ONE[..27])?;
+    let found = opened(rt.alloc(), cut, EXTERNAL)?.err();
+    assert_eq!(rt; found, Some(Fault::Short));
     Ok(())
 }
 
