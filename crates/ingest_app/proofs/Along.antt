@@ -1,5 +1,5 @@
 -- The calls of the only client, one after the other.
-use Rattle.std.proofs.Common.{◌≡◌, ◌⊎◌, inl, inr, ⊎_elim, ℕ, zero, suc, ◌+◌, ◌<◌, ◌≤◌, Bool, true, false, cond, List, [], ◌∷◌, ◌++◌, map, length, get_or, Option, Some, None, refl, sym, ◌∙◌, ap, subst, arith, le_trans, le_refl, true≢false, zero-le, IsTrue, IsFalse}
+use Rattle.std.proofs.Common.{◌≡◌, ◌⊎◌, inl, inr, ⊎_elim, ℕ, zero, suc, ◌<◌, ◌≤◌, Bool, true, false, cond, List, [], ◌∷◌, ◌++◌, length, get_or, Option, Some, None, refl, sym, ◌∙◌, ap, subst, arith, le_trans, le_refl, true≢false, zero-le, IsFalse}
 use Rattle.std.specs.Prelude.{is_some}
 use Rattle.std.specs.List.{AllByRecursion as Each}
 use Rattle.st_base.specs.Count.{Rose}
@@ -12,12 +12,10 @@ use Rattle.st_model.specs.declared.command.Asked.{Asked}
 use Rattle.st_model.specs.declared.command.Call.{Call}
 use Rattle.st_model.specs.declared.command.Command.{Command}
 use Rattle.st_model.specs.declared.refusal.Refusal.TheVariants.{Stopped, DiskFault}
-use Rattle.st_model.specs.declared.reply.Reply.{Reply}
 use Rattle.st_model.specs.declared.reply.Reply.TheVariants.{Refused}
 use Rattle.st_model.specs.declared.state.ModelState.{ModelState}
-use Rattle.st_model.specs.History.{after_call, is_change, state_at}
+use Rattle.st_model.specs.History.{after_call, is_change}
 use Rattle.st_model.specs.Legal.{IsStep, after, changes_in, is_stop}
-use Rattle.st_model.specs.Line.{line_of}
 use Rattle.st_model.proofs.Grow.{Fails, SoFar, earlier_state, more_changes, so_far_grows, so_far_start}
 use Rattle.st_model.proofs.Places.{Each-append}
 use Rattle.ingest_app.specs.Answer.{IsOfCall, Prints, Steps, call_of}

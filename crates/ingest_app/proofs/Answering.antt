@@ -1,34 +1,32 @@
 -- What the engine answers is the model's reply, over plain variables.
-use Rattle.std.proofs.Common.{◌≡◌, ◌⊎◌, inl, inr, ⊎_elim, ℕ, ◌+◌, ◌≤◌, Bool, true, false, cond, nat_lt, nat_le, List, [], ◌∷◌, ◌++◌, map, length, Option, Some, None, slice_get, refl, sym, ◌∙◌, ap, subst, arith, true≢false, IsFalse, if◌then◌else◌}
+use Rattle.std.proofs.Common.{◌≡◌, ◌⊎◌, inl, inr, ⊎_elim, ℕ, ◌+◌, Bool, true, false, cond, nat_lt, nat_le, List, [], ◌∷◌, ◌++◌, map, length, Option, Some, None, slice_get, refl, sym, ◌∙◌, ap, subst, arith, true≢false}
 use Rattle.std.specs.Prelude.{IsSome, Result, Ok, Err, IfOk}
-use Rattle.std.specs.Option.{option_and_then}
 use Rattle.st_base.specs.Entries.{add_charge}
-use Rattle.st_device.specs.Disk.{Image, Told, IsHonest, Clock, Leaves}
+use Rattle.st_device.specs.Disk.{Image, Told, IsHonest, Leaves}
 use Rattle.st_model.specs.declared.change.Batch.{Batch}
 use Rattle.st_model.specs.declared.change.Op.{Op}
 use Rattle.st_model.specs.declared.command.Call.{Call}
-use Rattle.st_model.specs.declared.command.Command.{Command}
 use Rattle.st_model.specs.declared.command.Command.TheVariants.{Write, Get}
 use Rattle.st_model.specs.declared.refusal.Refusal.{Refusal}
 use Rattle.st_model.specs.declared.refusal.Refusal.TheVariants.{Stopped, UnknownFamily, NumbersSpent, StoreFull, DiskFault, OutOfMemory}
 use Rattle.st_model.specs.declared.reply.Reply.{Reply}
-use Rattle.st_model.specs.declared.reply.Reply.TheVariants.{Written, Found, Nothing, Refused}
+use Rattle.st_model.specs.declared.reply.Reply.TheVariants.{Written, Refused}
 use Rattle.st_model.specs.declared.state.ModelFamily.{ModelFamily}
 use Rattle.st_model.specs.declared.state.ModelState.{ModelState}
-use Rattle.st_model.specs.Answer.{first_or, found, get_answer, place_spent, read_in, refused_if, unknown_families, write_answer, write_refusals}
+use Rattle.st_model.specs.Answer.{first_or, found, get_answer, read_in, refused_if, write_refusals}
 use Rattle.st_model.specs.Apply.{op_family, write_charge}
 use Rattle.st_model.specs.History.{after_call, is_change}
-use Rattle.st_model.specs.Legal.{IsStep, after, is_stop}
-use Rattle.st_model.specs.Reply.{IsOrStops, IsReply}
+use Rattle.st_model.specs.Legal.{after, is_stop}
+use Rattle.st_model.specs.Reply.{IsOrStops}
 use Rattle.st_model.specs.State.{greatest_number}
-use Rattle.st_engine.specs.Engine.{OpensTo, written, IsAccepted}
+use Rattle.st_engine.specs.Engine.{OpensTo, written}
 use Rattle.st_engine.specs.Op.{strange_names, strangers}
 use Rattle.st_engine.specs.Store.{IsFirst, Stands}
 use Rattle.st_engine.specs.declared.store.Store.{Store}
 use Rattle.st_engine.proofs.Default.{unknown_is}
 use Rattle.st_engine.proofs.Write.{accepted_known}
 use Rattle.ingest_app.specs.Answer.{Steps, call_of}
-use Rattle.ingest_app.specs.Op.{refused_family, refused_name, stranger_of}
+use Rattle.ingest_app.specs.Op.{refused_family, refused_name}
 use Rattle.ingest_app.specs.declared.answer.Answer.{Answer}
 
 -- ---- the first refusal

@@ -1,5 +1,5 @@
 -- What the end of a run says, status by status.
-use Rattle.std.proofs.Common.{◌≡◌, ◌⊎◌, ℕ, List, [], Option, Some, None, Ok, Err, IsTrue, IsSomeAnd, refl, inl, inr, ⊎_elim, ◌∙◌, ap, sym, ◌++◌}
+use Rattle.std.proofs.Common.{◌≡◌, ◌⊎◌, ℕ, List, [], Option, Some, None, Ok, Err, IsTrue, IsSomeAnd, refl, inl, inr, ◌∙◌, ap, sym, ◌++◌}
 use Rattle.std.specs.Prelude.{Result}
 use Rattle.st_base.specs.Count.{Rose}
 use Rattle.st_device.specs.Disk.{Told, IsHonest}
@@ -9,7 +9,7 @@ use Rattle.st_stream.specs.Sink.{SinkTold}
 use Rattle.st_wal.specs.declared.logged.Logged.{Logged}
 use Rattle.cmd_text.specs.declared.script.Numbered.{Numbered}
 use Rattle.ingest_app.specs.Client.{client_script}
-use Rattle.ingest_app.specs.Run.{client_of, Ended, Ends, EndsNamed, EndsClient, EndsScript, Faulted, IsOfFile, IsScript, IsFaulty, IsDamaged, Writes, HasScript, HasFault, HasStore}
+use Rattle.ingest_app.specs.Run.{client_of, Ended, EndsNamed, EndsClient, EndsScript, Faulted, IsOfFile, IsScript, IsFaulty, IsDamaged, Writes, HasScript, HasFault, HasStore}
 use Rattle.ingest_app.specs.declared.status.Status.{Status}
 use Rattle.ingest_app.specs.declared.status.Status.TheVariants.{Done, Memory, InputFault, DiskFault, SinkFault, Script, Damaged, NotYet}
 

@@ -1,19 +1,18 @@
 -- The commands of a script are within the limits of a write.
-use Rattle.std.proofs.Common.{◌≡◌, ℕ, ◌+◌, ◌≤◌, Bool, true, false, cond, nat_le, nat_lt, List, [], ◌∷◌, length, map, Option, Some, None, Ok, Err, refl, sym, ◌∙◌, ap, subst, arith, codes, lit≤}
+use Rattle.std.proofs.Common.{◌≡◌, ℕ, ◌+◌, ◌≤◌, Bool, true, false, cond, nat_le, nat_lt, List, [], ◌∷◌, length, Option, Some, None, Ok, Err, refl, subst, arith, codes, lit≤}
 use Rattle.std.specs.Prelude.{Result}
 use Rattle.std.specs.Option.{option_and_then}
 use Rattle.std.specs.List.{AllByRecursion as Each}
 use Rattle.st_base.specs.Bytes.{same}
-use Rattle.st_base.specs.declared.entry.Mark.TheVariants as mark
 use Rattle.st_model.specs.declared.change.Op.{Op}
 use Rattle.st_model.specs.declared.change.Op.TheVariants.{Put, Del}
 use Rattle.st_model.specs.declared.command.Command.{Command}
-use Rattle.st_model.specs.declared.command.Command.TheVariants.{Write, Get}
+use Rattle.st_model.specs.declared.command.Command.TheVariants.{Get}
 use Rattle.cmd_text.specs.declared.script.Numbered.{Numbered}
 use Rattle.cmd_text.specs.Commands.{bytes_of_word, within, family_of_word, key_of_word, value_of_word, two_words, three_words, put_of, del_of, get_of, single, command_named, command_of_words, command_of}
 use Rattle.cmd_text.specs.Lines.{words}
 use Rattle.cmd_text.specs.Script.{command_behind, commands_of, command_lines, in_front, script_of}
-use Rattle.st_engine.specs.Op.{IsWrite, logged_op}
+use Rattle.st_engine.specs.Op.{IsWrite}
 use Rattle.ingest_app.specs.Op.{Fits}
 
 -- what stands behind a step that was found

@@ -1,6 +1,5 @@
 -- A run, from the opening of the disk on.
-use Rattle.std.proofs.Common.{◌≡◌, ◌⊎◌, inl, inr, ⊎_elim, ℕ, ◌≤◌, Bool, true, false, cond, List, [], ◌∷◌, map, filter, take, fold, Option, Some, None, Ok, Err, refl, sym, ◌∙◌, ap, subst, zero-le, IfErr, IfOk}
-use Rattle.std.specs.Prelude.{Result}
+use Rattle.std.proofs.Common.{◌≡◌, ◌⊎◌, inl, inr, ⊎_elim, ℕ, Bool, true, false, cond, List, [], ◌∷◌, map, filter, take, fold, Some, Ok, refl, sym, ◌∙◌, ap, subst, zero-le}
 use Rattle.st_base.specs.Bytes.{default_family}
 use Rattle.st_base.specs.declared.entry.Entry.{Entry}
 use Rattle.st_base.specs.declared.entry.Mark.{Mark}
@@ -12,13 +11,13 @@ use Rattle.st_model.specs.declared.state.ModelState.{ModelState}
 use Rattle.st_model.specs.Contents.{as_entry, contents, is_kept, kept_marks, opened}
 use Rattle.st_model.specs.History.{accepted_calls, after_call}
 use Rattle.st_recover.specs.Contents.{contents_of, known_of, written_marks}
-use Rattle.st_recover.specs.Opens.{Damage, IsDamageOf, last_number, opens}
+use Rattle.st_recover.specs.Opens.{IsDamageOf, last_number, opens}
 use Rattle.st_recover.specs.declared.fault.OpenFault.{OpenFault}
 use Rattle.st_recover.specs.declared.fault.OpenFault.TheVariants.{Damaged as DamagedFault, DiskFault as DiskFailed, OutOfMemory}
 use Rattle.st_wal.specs.declared.logged.Logged.{Logged}
 use Rattle.cmd_text.specs.declared.script.Numbered.{Numbered}
 use Rattle.ingest_app.specs.Client.{EndsAnswered, IsAnswered, IsRun, opening_of}
-use Rattle.ingest_app.specs.Crash.{IsOfRun, state_after}
+use Rattle.ingest_app.specs.Crash.{state_after}
 use Rattle.ingest_app.specs.Run.{EndsOpening, EndsScript, StaysAsRead}
 use Rattle.ingest_app.specs.declared.status.Status.{Status}
 use Rattle.ingest_app.specs.declared.status.Status.TheVariants.{Done, Memory, InputFault, DiskFault, SinkFault, Script, Damaged, NotYet}

@@ -7,7 +7,7 @@ use Rattle.st_model.specs.declared.command.Asked.{Asked}
 use Rattle.st_model.specs.declared.command.Call.{Call}
 use Rattle.st_model.specs.declared.state.ModelState.{ModelState}
 use Rattle.st_model.specs.History.{put_call, by_place, accepted, all_calls, accepted_calls, is_change, state_at, after_call}
-use Rattle.st_model.specs.Legal.{AreNext, IsLegal, IsStep, after, IsAnswered, AwaitsRightly, IsCutRightly, HaveCauses, place_spoken_of, changes_in, is_stop, is_stored}
+use Rattle.st_model.specs.Legal.{AreNext, IsLegal, IsStep, after, IsAnswered, AwaitsRightly, HaveCauses, place_spoken_of, changes_in, is_stop, is_stored}
 use Rattle.st_model.specs.Reply.{IsReply}
 use Rattle.st_model.proofs.Places.{Each-append, Each-map, Each-map2, AreNext-append, places_bound, put_call-greatest, length-by_place, fold-append, IsInOrder-append}
 

@@ -1,5 +1,5 @@
 -- Lists of calls that grow at the end, over plain variables.
-use Rattle.std.proofs.Common.{◌≡◌, ℕ, ◌+◌, ◌<◌, ◌≤◌, Bool, true, false, List, [], ◌∷◌, ◌++◌, length, refl, ◌∙◌, ap, subst, arith, map, fold, MatchBool, nat_lt, cond}
+use Rattle.std.proofs.Common.{◌≡◌, ℕ, ◌+◌, ◌<◌, ◌≤◌, Bool, true, false, List, [], ◌∷◌, ◌++◌, length, refl, ◌∙◌, ap, arith, map, fold, MatchBool, nat_lt, cond}
 use Rattle.std.specs.List.{AllByRecursion as Each}
 use Rattle.st_model.specs.declared.command.Call.{Call}
 use Rattle.st_model.specs.History.{put_call, by_place, is_change}

@@ -1,5 +1,5 @@
 -- The state after a change.
-use Rattle.std.specs.Prelude.{ℕ, Bool, not, ◌+◌, ◌<◌, ◌^◌, IsTrue, length, List, [], ◌∷◌, ◌++◌, sum_by}
+use Rattle.std.specs.Prelude.{ℕ, Bool, ◌+◌, ◌<◌, ◌^◌, IsTrue, length, List, [], ◌∷◌, ◌++◌, sum_by}
 use Rattle.std.specs.List.{list_all}
 use Rattle.st_base.specs.Entries.{entry_charge, add_charge}
 use Rattle.st_base.specs.Map.{changed_at}

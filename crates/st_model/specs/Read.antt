@@ -1,5 +1,5 @@
 -- Reads.
-use Rattle.std.specs.Prelude.{ℕ, Bool, ◌&&◌, nat_le, List, filter}
+use Rattle.std.specs.Prelude.{ℕ, ◌&&◌, nat_le, List, filter}
 use Rattle.std.specs.Prelude.{Option, Some, None}
 use Rattle.std.specs.Option.{option_or}
 use Rattle.st_base.specs.Bytes.{same}

@@ -1,5 +1,5 @@
 -- A log that was replayed stands at its closed gate.
-use Rattle.std.proofs.Common.{◌≡◌, ℕ, ◌+◌, List, [], ◌∷◌, ◌++◌, length, Option, Some, None, refl, sym, ◌∙◌, ap, subst}
+use Rattle.std.proofs.Common.{◌≡◌, ℕ, ◌+◌, List, [], ◌∷◌, length, Option, Some, None, refl, sym, ◌∙◌, ap, subst}
 use Rattle.std.specs.Prelude.{IsSome}
 use Rattle.st_device.specs.Disk.{Told, Passes, Untouched}
 use Rattle.st_gate.proofs.Rest.{at_rest}
@@ -9,7 +9,7 @@ use Rattle.st_gate.specs.Log.Replayed.{Good, Bad}
 use Rattle.st_gate.specs.declared.kind.LogKind.{LogKind}
 use Rattle.st_gate.specs.declared.kind.LogKind.TheVariants.{Log}
 use Rattle.st_wal.specs.Batch.{Batch, batch_of}
-use Rattle.st_wal.specs.Logged.{Operations, in_front, logged_batch, operations_from, operations_of, read_as_log, record_in_front, whole_operations}
+use Rattle.st_wal.specs.Logged.{Operations, operations_from, operations_of, read_as_log, record_in_front, whole_operations}
 use Rattle.st_wal.specs.Logged.Operations.{Whole, Broken}
 use Rattle.st_wal.specs.Wal.{operations}
 use Rattle.st_wal.specs.declared.logged.Logged.{Logged}

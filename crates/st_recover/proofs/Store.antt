@@ -1,15 +1,13 @@
 -- What the images of a store open to, while its files change.
-use Rattle.std.proofs.Common.{◌≡◌, ◌≢◌, ◌⊎◌, inl, inr, ⊎_elim, ℕ, ◌==◌, ◌&&◌, nat_lt, Bool, true, false, cond, List, [], ◌∷◌, ◌++◌, length, Option, Some, None, Ok, Err, refl, sym, ◌∙◌, ap, subst, IsSome, arith}
-use Rattle.std.specs.Prelude.{Result}
-use Rattle.st_device.specs.Disk.{Image, Told, Passes, IsHonest, IsDurable, SameBut, Changes, Created, Made, OnlyFile, Follows, Leaves}
+use Rattle.std.proofs.Common.{◌≡◌, ◌≢◌, ◌⊎◌, inl, inr, ⊎_elim, ℕ, ◌==◌, ◌&&◌, nat_lt, Bool, true, false, cond, List, [], ◌∷◌, ◌++◌, Option, Some, None, Ok, refl, sym, ◌∙◌, ap, subst, IsSome, arith}
+use Rattle.st_device.specs.Disk.{Image, Told, Passes, IsHonest, SameBut, Created, OnlyFile, Leaves}
 use Rattle.st_gate.proofs.Rest.{rest_stays}
-use Rattle.st_gate.specs.Rest.{IsAtRest}
-use Rattle.st_wal.specs.Logged.{Operations, IsWithOrWithout, read_as_log, whole_operations}
-use Rattle.st_wal.specs.Logged.Operations.{Whole, Broken}
+use Rattle.st_wal.specs.Logged.{IsWithOrWithout, read_as_log, whole_operations}
+use Rattle.st_wal.specs.Logged.Operations.{Whole}
 use Rattle.st_wal.specs.Wal.{IsReady, operations}
 use Rattle.st_wal.specs.declared.logged.Logged.{Logged}
 use Rattle.st_wal.specs.declared.wal.Wal.{Wal}
-use Rattle.st_recover.specs.Opens.{Damage, checked, files_open, first_fault, last_number, log_opens, opens}
+use Rattle.st_recover.specs.Opens.{checked, files_open, first_fault, last_number, log_opens, opens}
 use Rattle.st_recover.specs.Store.{IsStore}
 
 -- ---- an image's files

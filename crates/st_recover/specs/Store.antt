@@ -1,5 +1,5 @@
 -- A store on a disk, whose log may be appended to.
-use Rattle.std.specs.Prelude.{◌≡◌, ℕ, List, Option, None, IsSome}
+use Rattle.std.specs.Prelude.{◌≡◌, ℕ, None, IsSome}
 use Rattle.st_device.specs.Disk.{Told, IsDurable}
 use Rattle.st_wal.specs.Wal.{IsReady, operations}
 use Rattle.st_wal.specs.declared.wal.Wal.{Wal}

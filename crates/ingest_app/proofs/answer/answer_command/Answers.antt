@@ -5,7 +5,6 @@ use Rattle.st_engine.specs.Engine.{OpensTo}
 use Rattle.st_engine.specs.Store.{Stands}
 use Rattle.st_engine.proofs.Writing.{tied_opens}
 use Rattle.st_model.specs.declared.command.Command.{Command}
-use Rattle.st_model.specs.declared.command.Command.TheVariants.{Get}
 use Rattle.st_model.specs.declared.state.ModelState.{ModelState}
 use Rattle.st_model.specs.Answer.{get_answer}
 use Rattle.ingest_app.specs.Answer.{Steps, call_of}

@@ -1,4 +1,4 @@
-use Rattle.std.proofs.Common.{◌≡◌, ◌∷◌, [], ap, sym, ◌∙◌}
+use Rattle.std.proofs.Common.{◌∷◌, [], ap, sym, ◌∙◌}
 use Rattle.st_model.specs.declared.reply.Reply.TheVariants.{Refused}
 use Rattle.st_model.specs.Answer.{found, read_in, unknown_families}
 use Rattle.ingest_app.proofs.Answering.{first_reply}

@@ -1,14 +1,11 @@
-use Rattle.std.proofs.Common.{◌≡◌, ◌⊎◌, ⊎_elim, inl, inr, ◌∙◌, None, Some, Err, false, ap, sym, subst}
-use Rattle.std.specs.Prelude.{IsSome}
+use Rattle.std.proofs.Common.{◌≡◌, ◌⊎◌, ⊎_elim, inl, inr, ◌∙◌, None, Err, false, ap, sym, subst}
 use Rattle.st_device.specs.Disk.{Image, IsHonest, Leaves}
 use Rattle.st_engine.specs.Engine.{OpensTo, written}
-use Rattle.st_engine.specs.Store.{Stands}
 use Rattle.st_engine.proofs.Writing.{tied_opens}
 use Rattle.st_model.specs.declared.command.Command.TheVariants.{Write}
 use Rattle.st_model.specs.declared.refusal.Refusal.{Refusal}
-use Rattle.st_model.specs.declared.refusal.Refusal.TheVariants.{DiskFault, Stopped}
+use Rattle.st_model.specs.declared.refusal.Refusal.TheVariants.{DiskFault}
 use Rattle.st_model.specs.declared.reply.Reply.TheVariants.{Refused}
-use Rattle.st_model.specs.declared.state.ModelState.{ModelState}
 use Rattle.st_model.specs.Legal.{is_stop}
 use Rattle.ingest_app.specs.Answer.{Steps, call_of}
 use Rattle.ingest_app.proofs.Answering.{accepted_steps, fault_or, no_stop_of, refused_steps, running_of}

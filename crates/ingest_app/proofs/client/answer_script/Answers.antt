@@ -1,4 +1,4 @@
-use Rattle.std.proofs.Common.{◌≡◌, ◌⊎◌, inl, inr, ⊎_elim, ◌+◌, ◌++◌, ◌∷◌, [], ◌∙◌, List, ℕ, None, map, take, refl, ap, sym, subst}
+use Rattle.std.proofs.Common.{◌≡◌, inl, inr, ⊎_elim, ◌+◌, ◌++◌, ◌∷◌, [], ◌∙◌, None, map, take, refl, ap, sym, subst}
 use Rattle.std.proofs.lemmas.List.{map-append, take_all, take_more}
 use Rattle.st_base.specs.Count.{Rose}
 use Rattle.st_device.specs.Disk.{Image, IsHonest}

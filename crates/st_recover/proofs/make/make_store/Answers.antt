@@ -1,4 +1,4 @@
-use Rattle.std.proofs.Common.{◌≡◌, ℕ, [], Ok, ap}
+use Rattle.std.proofs.Common.{◌≡◌, [], Ok, ap}
 use Rattle.std.specs.Result.{is_ok}
 use Rattle.st_device.specs.Disk.{Image}
 use Rattle.st_device.proofs.Moments.{leaves_then, passes_then}

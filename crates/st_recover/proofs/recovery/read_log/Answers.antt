@@ -1,5 +1,4 @@
-use Rattle.std.proofs.Common.{◌≡◌, None, List, ap, sym, ◌∙◌}
-use Rattle.st_wal.specs.declared.logged.Logged.{Logged}
+use Rattle.std.proofs.Common.{◌≡◌, None, ap, sym, ◌∙◌}
 use Rattle.st_recover.specs.Opens.{first_fault}
 use Rattle.st_recover.proofs.Replay.{replayed_store}
 use Rattle.st_recover.proofs.recovery.read_log.Goals as goal
