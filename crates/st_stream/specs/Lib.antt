@@ -3,5 +3,8 @@ pub mod Inputs
 pub mod MemInputs
 pub mod MemInputsState
 pub mod MemSink
+pub mod MemSource
 pub mod Schedule
 pub mod Sink
+pub mod Source
+pub mod SourceRead

@@ -10,7 +10,7 @@ use st_base::Bytes;
 use std::alloc::{AllocError, Global};
 
 // How many bytes are asked for at once.
-const PIECE_BYTES: usize = 65_536;
+pub const PIECE_BYTES: usize = 65_536;
 
 /// What was read of a file.
 #[derive(Debug, Drop, PartialEq, Eq)]
@@ -23,10 +23,10 @@ pub enum FileRead {
     Whole(Bytes),
 }
 
-/// Why a file wasn't read.
+/// Why a file or a source wasn't read.
 #[derive(Clone, Copy, Debug, Drop, PartialEq, Eq)]
 pub enum ReadFault {
-    /// The inputs have failed.
+    /// The inputs or the source have failed.
     Failed,
     OutOfMemory,
 }
