@@ -26,3 +26,7 @@ stay_trans a b c first then = record {
   file = then.file ∙ first.file;
   faults = omega arith;
 }
+
+-- what came of a source, and the first n that a read took behind it
+pub takes_more : (all had before after new : List ℕ) (n : ℕ) → had ++ before ≡ all → take n new ++ after ≡ before → (had ++ take n new) ++ after ≡ all
+takes_more all had before after new n first then = append_assoc had (take n new) after ∙ ap (λ rest. had ++ rest) then ∙ first
