@@ -83,6 +83,33 @@ fn come_and_go<D: Disk>(disk: &mut D) -> Result<[u8; 3], Failed>
     Ok(bytes)
 }
 
+// Puts a file of one byte into the folder, past the disk.
+fn put(rt: &HostRuntime, file: u64, byte: u8) -> Result<(), Fail> {
+    let path = format!(in rt.alloc(); "db/f{file:020}")?;
+    fs::write(rt, path.as_str(), [byte].as_slice())?;
+    Ok(())
+}
+
+// More files than stay open, each read twice; one is removed and made again.
+fn many_files(rt: &HostRuntime, folder: &mut FolderDisk<HostRuntime>) -> Result<(), Fail> {
+    for file in 20..40 {
+        put(rt, file, file as u8)?;
+    }
+    for at in 0..40 {
+        let file = 20 + at % 20;
+        let bytes = bytes_of(rt.alloc(), folder, file)?;
+        assert_eq!(rt; bytes.as_slice(), [file as u8].as_slice());
+    }
+    folder.remove(30)?;
+    put(rt, 30, 7)?;
+    for file in 20..40 {
+        let bytes = bytes_of(rt.alloc(), folder, file)?;
+        let byte = if file == 30 { 7 } else { file as u8 };
+        assert_eq!(rt; bytes.as_slice(), [byte].as_slice());
+    }
+    Ok(())
+}
+
 #[test]
 fn each_disk_keeps_a_file(rt: HostRuntime) -> Result<(), Fail> {
     let alloc = rt.alloc();
@@ -92,6 +119,8 @@ fn each_disk_keeps_a_file(rt: HostRuntime) -> Result<(), Fail> {
     folder.create(2)?;
     fs::write(&rt, "db/f3", "no file of the disk")?;
     assert_eq!(rt; folder.files(alloc)?.as_slice(), [2].as_slice());
+    many_files(&rt, &mut folder)?;
+    assert_eq!(rt; folder.files(alloc)?.len(), 21);
     assert_eq!(rt; folder.faults(), 0);
     let mut unrecorded = UnrecordedDisk::new(alloc);
     assert_eq!(rt;
