@@ -3,6 +3,9 @@
 //!
 //! A call answers `Failed` only where the count of that object rose in the call, or stands at its end. Code that is
 //! generic over these traits can't raise a count, so a layer above can't give up without a fault.
+//!
+//! `FolderInputs`, `StdSource` and `StdSink` tell nothing of bytes, so no clause refuses a body of theirs that finds, reads
+//! or writes nothing; a test calls each.
 #![tactic(auto)]
 
 mod folder_inputs;
