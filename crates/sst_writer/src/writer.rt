@@ -53,7 +53,7 @@ impl SstFileWriter {
     fn rises_to(&self, key: &Key) -> bool
         ensures { result ≡ rises_to self.now key.now }
     {
-        self.is_empty || self.last.as_slice() < key.as_bytes()
+        self.is_empty || self.last.as_slice().cmp(key.as_bytes()).is_lt()
     }
 
     // Puts an entry at the end, or leaves the writer as it was.
@@ -75,7 +75,9 @@ impl SstFileWriter {
             number: 0,
             mark,
         };
-        self.table.add(alloc, entry)?;
+        if let Err(fault) = self.table.add(alloc, entry) {
+            return Err(fault.into());
+        }
         self.last.keep_and_add(0, key.as_bytes());
         self.is_empty = false;
         Ok(())
