@@ -34,7 +34,7 @@ same() {
   fi
 }
 
-# refused WHAT FAULT FILE: the program refuses the table with this fault, whose last numbers may be left out
+# refused WHAT FAULT FILE: the program refuses the table with this fault, whose last numbers may be left out here
 refused() {
   count=$((count + 1))
   "$program" show <"$3" >shown
@@ -86,7 +86,7 @@ Version 5
 version 5
 Checksum 4
 xxh3
-Compressed 0
+Compressed
 compressed
 IndexKind
 hash_index
