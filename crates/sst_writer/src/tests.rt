@@ -1,5 +1,5 @@
 use crate::{FinishFault, SstFileWriter, WriterFault};
-use st_base::{Bytes, Key, MakeFault, MarkRef, Rows, Scratch, Value};
+use st_base::{Bytes, EntryRef, Key, MakeFault, MarkRef, Rows, Scratch, Value};
 use st_table::{Table, TableKind};
 use std::alloc::{AllocError, Global};
 use std::sync::Arc;
@@ -59,29 +59,40 @@ fn finished(alloc: Global, writer: SstFileWriter) -> Option<Bytes> {
     }
 }
 
-// The mark of a row.
-fn mark_of(value: Option<&[u8]>) -> MarkRef<'_> {
-    match value {
-        Some(value) => MarkRef::Put(value),
-        None => MarkRef::Gone,
+// Whether an entry is marked with the value, or as a tombstone.
+fn is_marked(mark: MarkRef<'_>, value: Option<&[u8]>) -> bool {
+    match (mark, value) {
+        (MarkRef::Put(found), Some(wanted)) => found == wanted,
+        (MarkRef::Gone, None) => true,
+        _ => false,
     }
+}
+
+// Whether an entry is that of the row.
+fn is_row(entry: EntryRef<'_>, row: &Row) -> bool {
+    entry.key == row.0 && is_marked(entry.mark, row.1)
+}
+
+// Whether a table has these rows.
+fn are_rows(alloc: Global, table: &Table, rows: &[Row]) -> Result<bool, AllocError> {
+    if table.len() != rows.len() {
+        return Ok(false);
+    }
+    let mut scratch = Scratch::new(alloc)?;
+    for place in 0..table.len() {
+        if !is_row(table.at(place, &mut scratch), &rows[place]) {
+            return Ok(false);
+        }
+    }
+    Ok(true)
 }
 
 // Whether the bytes are an external table of these rows.
 fn has_rows(alloc: Global, bytes: Bytes, rows: &[Row]) -> Result<bool, AllocError> {
     let bytes = Arc::new(alloc, bytes)?;
-    let mut scratch = Scratch::new(alloc)?;
     match Table::open(alloc, bytes, TableKind::External, 0) {
-        Ok(table) if table.len() == rows.len() => {
-            let mut same = true;
-            for place in 0..rows.len() {
-                let entry = table.at(place, &mut scratch);
-                let (key, value) = rows[place];
-                same = same && entry.key == key && entry.mark == mark_of(value);
-            }
-            Ok(same)
-        }
-        _ => Ok(false),
+        Ok(table) => are_rows(alloc, &table, rows),
+        Err(_) => Ok(false),
     }
 }
 
