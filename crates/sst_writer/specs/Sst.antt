@@ -33,6 +33,7 @@ writer_fault add.OutOfMemory = OutOfMemory
 
 -- ---- a writer
 
+-- the entries that were read, or none where there is a fault
 abbrev pub entries_or_none : Result (List Entry) TableFault → List Entry
 entries_or_none (Ok entries) = entries
 entries_or_none (Err fault) = []
