@@ -4,7 +4,7 @@ ghost use Rattle.st_model.specs.Word.{hex_digit, byte_word, word};
 ghost use Rattle.st_model.specs.Line.{line_of};
 ghost use Rattle.cmd_text.specs.Replies.{Extends, refusal_text, reply_text};
 
-use crate::command::is_plain;
+use crate::bytes::is_plain;
 use st_base::Bytes;
 use st_model::{Refusal, Reply};
 use std::alloc::{AllocError, Global};
@@ -47,7 +47,7 @@ fn push_byte(out: &mut Bytes, byte: u8) -> Result<(), AllocError>
 }
 
 // Puts the spelling of the bytes at the end.
-fn push_word(out: &mut Bytes, bytes: &[u8]) -> Result<(), AllocError>
+pub(crate) fn push_word(out: &mut Bytes, bytes: &[u8]) -> Result<(), AllocError>
     ensures ok { OnOk result (out.new ≡ out.old ++ word bytes.now) }
     ensures err { OnErr result (Extends out.old out.new) }
 {
