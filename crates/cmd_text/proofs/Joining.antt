@@ -51,12 +51,12 @@ words_join first (next ∷ others) lack =
 
 -- ---- a word has no byte below `!`
 
-other-than : (c byte : ℕ) → (byte ≡ c → ⊥) → not (byte == c) ≡ true
-other-than c byte other = ap not (ne_eqb byte c other)
+pub other_than : (c byte : ℕ) → (byte ≡ c → ⊥) → not (byte == c) ≡ true
+other_than c byte other = ap not (ne_eqb byte c other)
 
 -- a test that this byte doesn't pass
 passes : (c : ℕ) (p : ℕ → Bool) (byte : ℕ) → p c ≡ false → p byte ≡ true → not (byte == c) ≡ true
-passes c p byte fails passed = other-than c byte (λ e. false≢true (sym fails ∙ ap p (sym e) ∙ passed))
+passes c p byte fails passed = other_than c byte (λ e. false≢true (sym fails ∙ ap p (sym e) ∙ passed))
 
 all-pass : (c : ℕ) (p : ℕ → Bool) (bytes : List ℕ) → p c ≡ false → list_all p bytes ≡ true → lacks c bytes ≡ true
 all-pass c p [] fails passed = refl
@@ -68,7 +68,7 @@ pub join_lacks : (c : ℕ) (front back : List ℕ) → lacks c front ≡ true �
 join_lacks c front back e f = list_all-append (λ byte. not (byte == c)) front back ∙ and_from (lacks c front) (lacks c back) e f
 
 one-lacks : (c byte : ℕ) → (byte ≡ c → ⊥) → lacks c (byte ∷ []) ≡ true
-one-lacks c byte other = and_from (not (byte == c)) true (other-than c byte other) refl
+one-lacks c byte other = and_from (not (byte == c)) true (other_than c byte other) refl
 
 decimal-lacks : (number : ℕ) → number < 2 ^ 64 → lacks 32 (decimal number) ≡ true
 decimal-lacks number small =
@@ -87,10 +87,10 @@ not-plain c low = grind (arith, nat_tests)
 byte-by : (c : ℕ) (b : Bool) (byte : ℕ) → c < 33 → is_plain byte ≡ b → lacks c (cond b (byte ∷ []) (92 ∷ 120 ∷ hex_digit (byte / 16) ∷ hex_digit (byte % 16) ∷ [])) ≡ true
 byte-by c true byte low plain = and_from (not (byte == c)) true (passes c is_plain byte (not-plain c low) plain) refl
 byte-by c false byte low plain =
-    and_from (not (92 == c)) _ (other-than c 92 (λ e. omega arith))
-    (and_from (not (120 == c)) _ (other-than c 120 (λ e. omega arith))
+    and_from (not (92 == c)) _ (other_than c 92 (λ e. omega arith))
+    (and_from (not (120 == c)) _ (other_than c 120 (λ e. omega arith))
     (and_from (not (hex_digit (byte / 16) == c)) (lacks c (hex_digit (byte % 16) ∷ []))
-    (other-than c (hex_digit (byte / 16)) (digit-by c (nat_lt (byte / 16) 10) (byte / 16) low))
+    (other_than c (hex_digit (byte / 16)) (digit-by c (nat_lt (byte / 16) 10) (byte / 16) low))
     (one-lacks c (hex_digit (byte % 16)) (digit-by c (nat_lt (byte % 16) 10) (byte % 16) low))))
 
 bytes-lack : (c : ℕ) (bytes : List ℕ) → c < 33 → lacks c (flat_map byte_word bytes) ≡ true
@@ -100,7 +100,7 @@ bytes-lack c (byte ∷ bytes) low =
 
 pub word_lacks : (c : ℕ) (bytes : List ℕ) → c < 33 → lacks c (word bytes) ≡ true
 word_lacks c [] low =
-    and_from (not (92 == c)) _ (other-than c 92 (λ e. omega arith)) (one-lacks c 101 (λ e. omega arith))
+    and_from (not (92 == c)) _ (other_than c 92 (λ e. omega arith)) (one-lacks c 101 (λ e. omega arith))
 word_lacks c (byte ∷ bytes) low = bytes-lack c (byte ∷ bytes) low
 
 -- ---- the words of a reply have no space

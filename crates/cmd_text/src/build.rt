@@ -1,4 +1,4 @@
-ghost use Rattle.std.specs.Prelude.{◌≡◌, ℕ, ◌+◌, ◌<◌, ◌∷◌, ◌++◌, List, [], true, length, IfOk, IfSome, IsTrue, MatchOption, Option};
+ghost use Rattle.std.specs.Prelude.{◌≡◌, ℕ, ◌+◌, ◌<◌, ◌∷◌, ◌++◌, List, [], Err, true, length, IfOk, IfSome, IsTrue, MatchOption, Option};
 ghost use Rattle.std.specs.List.{AllByRecursion as Each};
 ghost use Rattle.st_base.specs.Rows.{AreRows, last_key};
 ghost use Rattle.cmd_text.specs.Build.{GivesEntries, GivesEntry, GivesMore, IsBuildEntry, build_of, del_entry, entry_of_line, is_above, is_within};
@@ -20,8 +20,25 @@ pub fn next_build_line(text: &[u8]) -> Option<(&[u8], &[u8])>
     ensures parts { MatchOption result (text_parts text.now ≡ text.now ∷ []) (λ cut. text_parts text.now ≡ cut.0.now ∷ text_parts cut.1.now) }
     ensures shorter { IfSome result (λ cut. length cut.0.now + length cut.1.now < length text.now) }
 {
-    let end = find_byte(text, b'\n')?;
-    Some((&text[..end], &text[end + 1..]))
+    match find_byte(text, b'\n') {
+        None => None,
+        Some(end) => Some((&text[..end], &text[end + 1..])),
+    }
+}
+
+// The first fault of a line `put K V` whose key has this one: it is a line of that kind only if the value is a word.
+fn put_fault(key: WordFault, value: Result<Value, WordFault>) -> BuildLineFault
+    ensures { (key_read value_read : Option (List ℕ)) → GivesBytes (Err key) KEY_BYTES key_read → GivesBytes value VALUE_BYTES value_read
+        → GivesEntry (Err result) (put_of key_read value_read) }
+{
+    match key {
+        WordFault::TooLong => match value {
+            Ok(_value) => BuildLineFault::TooLarge,
+            Err(fault) => BuildLineFault::from(fault),
+        },
+        WordFault::NotAWord => BuildLineFault::Line,
+        WordFault::OutOfMemory => BuildLineFault::OutOfMemory,
+    }
 }
 
 // The key with its value as a mark, or the first fault of the two words.
@@ -34,13 +51,7 @@ fn put_of(
 {
     match key {
         Ok(key) => Ok((key, Mark::Put(value?))),
-        Err(WordFault::TooLong) => match value {
-            Err(WordFault::NotAWord) => Err(BuildLineFault::Line),
-            Err(WordFault::OutOfMemory) => Err(BuildLineFault::OutOfMemory),
-            _ => Err(BuildLineFault::TooLarge),
-        },
-        Err(WordFault::NotAWord) => Err(BuildLineFault::Line),
-        Err(WordFault::OutOfMemory) => Err(BuildLineFault::OutOfMemory),
+        Err(fault) => Err(put_fault(fault, value)),
     }
 }
 
