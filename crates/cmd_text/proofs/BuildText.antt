@@ -81,9 +81,10 @@ put-line name first second (Some key) (Some value) entry n e f g =
     let k = only_word first key e in
     let v = only_word second value f in
     let same : unnumbered key (Put value) ≡ entry = cc in
-    subst (IsLine (name ∷ first ∷ second ∷ [])) same
-    (ap (λ w. w ∷ first ∷ second ∷ []) n ∙ ap (λ w. codes "put" ∷ w ∷ second ∷ []) k.0 ∙ ap (λ w. codes "put" ∷ word key ∷ w ∷ []) v.0,
-    record { key = k.1; mark = v.1; number = refl })
+    subst (IsLine (name ∷ first ∷ second ∷ [])) same (
+      ap (λ w. w ∷ first ∷ second ∷ []) n ∙ ap (λ w. codes "put" ∷ w ∷ second ∷ []) k.0 ∙ ap (λ w. codes "put" ∷ word key ∷ w ∷ []) v.0,
+      record { key = k.1; mark = v.1; number = refl },
+    )
 
 del-line : (name first : List ℕ) (key : Option (List ℕ)) (entry : Entry) → name ≡ codes "del" → bytes_of_word first ≡ key → option_map (λ k. unnumbered k Gone) key ≡ Some entry → IsLine (name ∷ first ∷ []) entry
 del-line name first None entry n e g = absurd (cc)
@@ -160,9 +161,11 @@ end-is before entries number (byte ∷ bytes) e = absurd (cc)
 
 one-more : (before mid entries : List Entry) (line : List ℕ) (parts : List (List ℕ)) → Added before line mid → AreRead mid parts entries → (more : List Entry) × (entries ≡ before ++ more) × (line ++ 10 ∷ join_with_byte 10 parts ≡ build_text more)
 one-more before mid entries line parts (entry, grown, next) (more, all, text) =
-    let is = line-is line entry next.read in
-    (entry ∷ more, all ∙ ap (λ b. b ++ more) grown ∙ append_assoc before (entry ∷ []) more,
-    sym (append_assoc line (10 ∷ []) (join_with_byte 10 parts)) ∙ ap (λ l. l ++ join_with_byte 10 parts) is.0 ∙ ap (λ l. build_line entry ++ l) text)
+    let is = line-is line entry next.read in (
+      entry ∷ more,
+      all ∙ ap (λ b. b ++ more) grown ∙ append_assoc before (entry ∷ []) more,
+      sym (append_assoc line (10 ∷ []) (join_with_byte 10 parts)) ∙ ap (λ l. l ++ join_with_byte 10 parts) is.0 ∙ ap (λ l. build_line entry ++ l) text,
+    )
 
 module _ (fits : List Entry → Bool) where
   parts-by : (before entries : List Entry) (number : ℕ) (line : List ℕ) (parts : List (List ℕ)) → ((mid : List Entry) → entries_from fits mid (number + 1) parts ≡ Ok entries → AreRead mid parts entries) → (r : Result (List Entry) BuildFault) → with_build_line fits before number line ≡ r → and_then r (λ more. entries_from fits more (number + 1) parts) ≡ Ok entries → (more : List Entry) × (entries ≡ before ++ more) × (line ++ 10 ∷ join_with_byte 10 parts ≡ build_text more)
@@ -328,19 +331,23 @@ module _ (fits : List Entry → Bool) where
   accepted-behind : (all before entries : List Entry) (last : Entry) → all ≡ before ++ entries → ((count : ℕ) → IsTrue (fits (take count all))) → last_key before ≡ Some last.key → last.number ≡ 0 → rises_behind comes_before last entries ≡ true → Each Fits entries → Each IsBuildEntry entries → Accepted before entries
   accepted-behind all before [] last e fit last_is zero rising within each = tt
   accepted-behind all before (entry ∷ entries) last e fit last_is zero rising within each =
-      let rise = and_parts (comes_before last entry) (rises_behind comes_before entry entries) rising in
-      (fits-within entry.key entry.mark within.0.0 within.0.1,
-      ap (λ k. is_above k entry.key) last_is ∙ below-by (bytes_cmp last.key entry.key) entry.number last.number each.0.number zero rise.0,
-      front-fits all before entries entry e fit,
-      each.0,
-      accepted-behind all (before ++ entry ∷ []) entries entry (e ∙ sym (append_assoc before (entry ∷ []) entries)) fit (last_key_added before entry) each.0.number rise.1 within.1 each.1)
+      let rise = and_parts (comes_before last entry) (rises_behind comes_before entry entries) rising in (
+        fits-within entry.key entry.mark within.0.0 within.0.1,
+        ap (λ k. is_above k entry.key) last_is ∙ below-by (bytes_cmp last.key entry.key) entry.number last.number each.0.number zero rise.0,
+        front-fits all before entries entry e fit,
+        each.0,
+        accepted-behind all (before ++ entry ∷ []) entries entry (e ∙ sym (append_assoc before (entry ∷ []) entries)) fit (last_key_added before entry) each.0.number rise.1 within.1 each.1,
+      )
 
   accepted : (entries : List Entry) → ((count : ℕ) → IsTrue (fits (take count entries))) → AreRows entries → Each IsBuildEntry entries → Accepted [] entries
   accepted [] fit rows each = tt
-  accepted (entry ∷ entries) fit rows each =
-      (fits-within entry.key entry.mark rows.within.0.0 rows.within.0.1, refl,
-      front-fits (entry ∷ entries) [] entries entry refl fit, each.0,
-      accepted-behind (entry ∷ entries) (entry ∷ []) entries entry refl fit refl each.0.number rows.ordered rows.within.1 each.1)
+  accepted (entry ∷ entries) fit rows each = (
+    fits-within entry.key entry.mark rows.within.0.0 rows.within.0.1,
+    refl,
+    front-fits (entry ∷ entries) [] entries entry refl fit,
+    each.0,
+    accepted-behind (entry ∷ entries) (entry ∷ []) entries entry refl fit refl each.0.number rows.ordered rows.within.1 each.1,
+  )
 
   some-stay : (entries : List Entry) → 0 < length entries → some_entries (Ok entries) ≡ Ok entries
   some-stay [] some = absurd (omega arith)

@@ -8,11 +8,12 @@ use Rattle.st_base.specs.Rows.{last_key}
 use Rattle.st_base.specs.declared.entry.Entry.{Entry}
 use Rattle.st_base.specs.declared.entry.Mark.TheVariants.{Put}
 use Rattle.cmd_text.specs.declared.fault.BuildFault.{BuildFault}
-use Rattle.cmd_text.specs.declared.fault.BuildFault.TheVariants.{Line, TooLarge, NotRising}
+use Rattle.cmd_text.specs.declared.fault.BuildFault.TheVariants.{Line, TooLarge, NotRising, NoEntry}
+use Rattle.cmd_text.specs.declared.fault.BuildFault.TheVariants as build
 use Rattle.cmd_text.specs.declared.fault.WordFault.{WordFault}
 use Rattle.cmd_text.specs.declared.fault.WordFault.TheVariants.{NotAWord, TooLong, OutOfMemory}
 use Rattle.cmd_text.specs.Commands.{GivesBytes}
-use Rattle.cmd_text.specs.Build.{GivesEntry, line_fault_of_word, and_then, at_end, build_of, entries_from, entry_of_line, is_above, is_within, put_of, some_entries, text_parts, unnumbered, with_build_line, with_entry, with_found}
+use Rattle.cmd_text.specs.Build.{GivesEntries, GivesEntry, GivesMore, line_fault_of_word, and_then, at_end, build_of, entries_from, entry_of_line, is_above, is_within, put_of, some_entries, text_parts, unnumbered, with_build_line, with_entry, with_found}
 
 module _ (fits : List Entry → Bool) where
   -- nothing is read yet
@@ -52,6 +53,27 @@ module _ (fits : List Entry → Bool) where
   -- something is left, and no line feed ends it
   pub build_cut : (entries : List Entry) (number : ℕ) (text : List ℕ) → 0 < length text → text_parts text ≡ text ∷ [] → entries_from fits entries number (text_parts text) ≡ Err (Line number)
   build_cut entries number text some parts = ap (entries_from fits entries number) parts ∙ cut-end entries number text some
+
+  some-stay : (entries : List Entry) → (entries ≡ [] → ⊥) → some_entries (Ok entries) ≡ Ok entries
+  some-stay [] some = absurd (some refl)
+  some-stay (entry ∷ entries) some = refl
+
+  -- all is read
+  pub build_ends : (entries : List Entry) (number : ℕ) (rest text : List ℕ) → length rest ≡ 0 → (entries ≡ [] → ⊥) → some_entries (entries_from fits entries number (text_parts rest)) ≡ build_of fits text → build_of fits text ≡ Ok entries
+  build_ends entries number rest text none some e =
+      sym e ∙ ap some_entries (build_end entries number rest none) ∙ some-stay entries some
+
+  -- a line isn't read
+  pub build_stops : (X : Type 0) (entries more : List Entry) (number : ℕ) (fault : BuildFault) (rest line after text : List ℕ) → GivesMore {X = X} (Err fault) more (with_build_line fits entries number line) → text_parts rest ≡ line ∷ text_parts after → some_entries (entries_from fits entries number (text_parts rest)) ≡ build_of fits text → GivesEntries (Err fault) (build_of fits text)
+  build_stops X entries more number (Line n) rest line after text gives parts e =
+      sym e ∙ ap some_entries (build_line_fault entries number (Line n) rest line after gives parts)
+  build_stops X entries more number (TooLarge n) rest line after text gives parts e =
+      sym e ∙ ap some_entries (build_line_fault entries number (TooLarge n) rest line after gives parts)
+  build_stops X entries more number (NotRising n) rest line after text gives parts e =
+      sym e ∙ ap some_entries (build_line_fault entries number (NotRising n) rest line after gives parts)
+  build_stops X entries more number NoEntry rest line after text gives parts e =
+      sym e ∙ ap some_entries (build_line_fault entries number NoEntry rest line after gives parts)
+  build_stops X entries more number build.OutOfMemory rest line after text gives parts e = tt
 
   -- ---- one line more
 

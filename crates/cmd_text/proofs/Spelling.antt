@@ -73,12 +73,14 @@ escape-of high low sixteens ones e f plain =
     let l = hex_back low ones f in
     let digits = digits-of sixteens ones h.0 l.0 in
     let byte = 16 * sixteens + ones in
-    let small : byte < 256 = omega (arith, h.0, l.0) in
-    (small, cond-false (is_plain byte) (byte ∷ []) (92 ∷ 120 ∷ hex_digit (byte / 16) ∷ hex_digit (byte % 16) ∷ []) plain
-    ∙ ap (λ v. 92 ∷ 120 ∷ hex_digit v ∷ hex_digit (byte % 16) ∷ []) digits.0
-    ∙ ap (λ v. 92 ∷ 120 ∷ hex_digit sixteens ∷ hex_digit v ∷ []) digits.1
-    ∙ ap (λ v. 92 ∷ 120 ∷ v ∷ hex_digit ones ∷ []) h.1
-    ∙ ap (λ v. 92 ∷ 120 ∷ high ∷ v ∷ []) l.1)
+    let small : byte < 256 = omega (arith, h.0, l.0) in (
+      small,
+      cond-false (is_plain byte) (byte ∷ []) (92 ∷ 120 ∷ hex_digit (byte / 16) ∷ hex_digit (byte % 16) ∷ []) plain
+          ∙ ap (λ v. 92 ∷ 120 ∷ hex_digit v ∷ hex_digit (byte % 16) ∷ []) digits.0
+          ∙ ap (λ v. 92 ∷ 120 ∷ hex_digit sixteens ∷ hex_digit v ∷ []) digits.1
+          ∙ ap (λ v. 92 ∷ 120 ∷ v ∷ hex_digit ones ∷ []) h.1
+          ∙ ap (λ v. 92 ∷ 120 ∷ high ∷ v ∷ []) l.1,
+    )
 
 escape-by : (high low byte : ℕ) (a b : Option ℕ) → hex_value high ≡ a → hex_value low ≡ b → of-digits a b ≡ Some byte → IsEscape high low byte
 escape-by high low byte None b e f g = absurd (cc)

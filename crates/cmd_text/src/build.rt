@@ -144,8 +144,10 @@ pub fn read_build(alloc: Global, text: &[u8]) -> Result<Entries, BuildFault>
     while !rest.is_empty() {
         line += 1;
         let (first, after) = next_build_line(rest).ok_or(BuildFault::Line { line })?;
-        add_line(alloc, &mut entries, line, first)?;
-        rest = after;
+        match add_line(alloc, &mut entries, line, first) {
+            Ok(()) => rest = after,
+            Err(fault) => return Err(fault),
+        }
     }
     if entries.is_empty() {
         return Err(BuildFault::NoEntry);

@@ -25,4 +25,6 @@ pub use replies::read_reply;
 pub use script::{Numbered, Script, read_script};
 
 #[cfg(test)]
+mod build_tests;
+#[cfg(test)]
 mod tests;
