@@ -1,14 +1,16 @@
 -- Bytes as words: the word of bytes is read as them, and no other word is.
-use Rattle.std.proofs.Common.{◌≡◌, ℕ, Bool, true, false, cond, ◌&&◌, ◌==◌, ◌<◌, ◌/◌, ◌%◌, ◌*◌, ◌+◌, List, [], ◌∷◌, ◌++◌, length, length-append, append_assoc, refl, sym, ap, ◌∙◌, subst, arith}
-use Rattle.std.specs.Prelude.{⊤, flat_map, codes, Option, Some, None, option_map}
+use Rattle.std.proofs.Common.{◌≡◌, ℕ, Bool, true, false, cond, ◌&&◌, ◌==◌, ◌<◌, ◌≤◌, ◌/◌, ◌%◌, ◌*◌, ◌+◌, List, [], ◌∷◌, ◌++◌, length, length-append, append_assoc, refl, sym, ap, ◌∙◌, subst, arith}
+use Rattle.std.specs.Prelude.{⊤, flat_map, codes, Option, Some, None, option_map, Err}
 use Rattle.std.specs.List.{list_all}
 use Rattle.std.proofs.lemmas.Bool.{and_parts, and_left, eqb-true, cond-true, cond-false}
 use Rattle.std.proofs.lemmas.Bool.Decides.{nat_tests}
 use Rattle.st_base.proofs.Same.{same_true}
 use Rattle.st_base.specs.Bytes.{same}
 use Rattle.st_model.specs.Word.{is_plain, hex_digit, byte_word, word}
-use Rattle.cmd_text.specs.Commands.{◌>>=◌, hex_value, escaped_byte, byte_and, spelled_bytes, bytes_of_word}
-use Rattle.cmd_text.specs.Replies.{AreBytes}
+use Rattle.cmd_text.specs.Commands.{◌>>=◌, GivesBytes, hex_value, escaped_byte, byte_and, spelled_bytes, bytes_of_word}
+use Rattle.cmd_text.specs.Replies.{AreBytes, GivesBack, reply_fault_of}
+use Rattle.cmd_text.specs.declared.fault.WordFault.{WordFault}
+use Rattle.cmd_text.specs.declared.fault.WordFault.TheVariants.{NotAWord, TooLong, OutOfMemory}
 
 -- ---- the byte at the front of a spelling
 
@@ -206,6 +208,10 @@ plain_word (first ∷ rest) some plain =
     word-spelled (first ∷ rest) some (plain-starts first rest (and_parts (is_plain first) (list_all is_plain rest) plain).0)
     ∙ plain_spelled (first ∷ rest) plain
 
+-- so they are their own word
+pub plain_printed : (bytes : List ℕ) → 0 < length bytes → list_all is_plain bytes ≡ true → word bytes ≡ bytes
+plain_printed bytes some plain = sym (only_word bytes bytes (plain_word bytes some plain)).0
+
 -- ---- a spelling, of which some bytes are read
 
 less-by : (bytes : List ℕ) (byte : ℕ) (reading : Option (List ℕ)) → option_map (λ left. (bytes ++ byte ∷ []) ++ left) reading ≡ option_map (λ left. bytes ++ left) (byte_and (Some byte) reading)
@@ -216,3 +222,21 @@ less-by bytes byte (Some left) = ap Some (append_assoc bytes (byte ∷ []) left)
 pub spelled_less : (all : Option (List ℕ)) (bytes rest after : List ℕ) (byte : ℕ) → option_map (λ left. bytes ++ left) (spelled_bytes rest) ≡ all → spelled_bytes rest ≡ byte_and (Some byte) (spelled_bytes after) → option_map (λ left. (bytes ++ byte ∷ []) ++ left) (spelled_bytes after) ≡ all
 spelled_less all bytes rest after byte e f =
     less-by bytes byte (spelled_bytes after) ∙ ap (option_map (λ left. bytes ++ left)) (sym f) ∙ e
+
+-- ---- a value that was printed
+
+-- what is read of its word is the value
+pub found_same : (spelling found value : List ℕ) → bytes_of_word spelling ≡ Some found → AreBytes value → spelling ≡ word value → found ≡ value
+found_same spelling found value e are f =
+    let same : Some found ≡ Some value = sym e ∙ ap bytes_of_word f ∙ read_word value are in
+    cc
+
+-- and it is refused for memory alone
+pub found_fault : (fault : WordFault) (spelling value : List ℕ) → GivesBytes (Err fault) 1048576 (bytes_of_word spelling) → AreBytes value → length value ≤ 1048576 → spelling ≡ word value → GivesBack (Err (reply_fault_of fault)) value
+found_fault NotAWord spelling value gives are small e =
+    let never : None ≡ Some value = sym gives ∙ ap bytes_of_word e ∙ read_word value are in
+    absurd (cc)
+found_fault TooLong spelling value (bytes, reading, long) are small e =
+    let same : bytes ≡ value = found_same spelling bytes value reading are e in
+    absurd (omega (arith, long, small, ap length same))
+found_fault OutOfMemory spelling value gives are small e = tt

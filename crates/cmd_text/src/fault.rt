@@ -1,7 +1,7 @@
 ghost use Rattle.std.specs.Prelude.{◌≡◌};
 ghost use Rattle.cmd_text.specs.Commands.{command_fault_of, fault_of, word_fault_of};
 ghost use Rattle.cmd_text.specs.Build.{line_fault_of_word};
-ghost use Rattle.cmd_text.specs.Replies.{line_fault_of};
+ghost use Rattle.cmd_text.specs.Replies.{line_fault_of, reply_fault_of};
 ghost use Rattle.cmd_text.specs.declared.fault.CommandFault.TheVariants as command;
 ghost use Rattle.cmd_text.specs.declared.fault.ScriptFault.TheVariants as script;
 ghost use Rattle.cmd_text.specs.declared.fault.LineFault.TheVariants as line;
@@ -163,6 +163,18 @@ impl From<WordFault> for BuildLineFault {
             WordFault::NotAWord => BuildLineFault::Line,
             WordFault::TooLong => BuildLineFault::TooLarge,
             WordFault::OutOfMemory => BuildLineFault::OutOfMemory,
+        }
+    }
+}
+
+impl From<WordFault> for LineFault {
+    ghost from_gives = { λ fault result. result ≡ reply_fault_of fault };
+
+    fn from(fault: WordFault) -> LineFault {
+        match fault {
+            WordFault::NotAWord => LineFault::NotAReply,
+            WordFault::TooLong => LineFault::NotAReply,
+            WordFault::OutOfMemory => LineFault::OutOfMemory,
         }
     }
 }

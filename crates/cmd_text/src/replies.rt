@@ -1,13 +1,13 @@
 ghost use Rattle.std.specs.Prelude.{◌≡◌, ◌<◌, ◌≤◌, ◌^◌, ◌∷◌, [], ◌++◌, ℕ, List, length, IfOk, IfSome, IsSomeAnd, IsErrOf, Some};
 ghost use Rattle.std.specs.Fmt.{decimal};
 ghost use Rattle.std.specs.Option.{option_copied};
-ghost use Rattle.st_model.specs.Word.{word};
+ghost use Rattle.st_model.specs.Word.{word as spelling_of};
 ghost use Rattle.st_model.specs.Line.{line_of, reply_words, refusal_words};
 ghost use Rattle.st_model.specs.declared.refusal.Refusal.{Refusal};
 ghost use Rattle.st_model.specs.declared.reply.Reply.{Reply};
 ghost use Rattle.cmd_text.specs.Replies.{AreBytes, GivesBack, IsPrinted, IsPrintedRefusal};
 
-use crate::bytes::{is, read_bytes};
+use crate::bytes::{is, read_value};
 use crate::fault::LineFault;
 use crate::print::print_reply;
 use crate::words::Words;
@@ -35,14 +35,23 @@ fn read_written(mut words: Words<'_>) -> Result<Reply, LineFault>
     Ok(Reply::Written(number))
 }
 
+// The value that the word stands for.
+fn found_value(alloc: Global, word: &[u8]) -> Result<Value, LineFault>
+    ensures { (value : List ℕ) → AreBytes value → length value ≤ 1048576 → word.now ≡ spelling_of value → GivesBack result value }
+{
+    match read_value(alloc, word) {
+        Ok(value) => Ok(value),
+        Err(fault) => Err(LineFault::from(fault)),
+    }
+}
+
 // The value of which the only word is the spelling.
 fn read_found(alloc: Global, mut words: Words<'_>) -> Result<Reply, LineFault>
-    ensures { (value : List ℕ) → AreBytes value → length value ≤ 1048576 → words.entry ≡ word value ∷ []
+    ensures { (value : List ℕ) → AreBytes value → length value ≤ 1048576 → words.entry ≡ spelling_of value ∷ []
         → GivesBack result (Reply.Found value) }
 {
     let word = words.next().ok_or(LineFault::NotAReply)?;
-    let bytes = read_bytes(alloc, word)?.ok_or(LineFault::NotAReply)?;
-    Ok(Reply::Found(Value::new(alloc, bytes.as_slice())?))
+    Ok(Reply::Found(found_value(alloc, word)?))
 }
 
 // The refusal of which these are the words.
