@@ -1,5 +1,5 @@
 -- A build text is that of the entries that it is read as, and they are rows.
-use Rattle.std.proofs.Common.{◌≡◌, ℕ, Bool, true, false, cond, not, ◌&&◌, ◌==◌, ◌<◌, ◌≤◌, ◌+◌, ◌-◌, nat_le, IsTrue, List, [], ◌∷◌, ◌++◌, length, length-append, take, suc, refl, sym, ap, ◌∙◌, subst, arith, lit≤, append_assoc, append-nil}
+use Rattle.std.proofs.Common.{◌≡◌, ℕ, Bool, true, false, cond, not, ◌&&◌, ◌==◌, ◌<◌, ◌≤◌, ◌+◌, ◌-◌, nat_le, IsTrue, List, [], ◌∷◌, ◌++◌, length, take, refl, sym, ap, ◌∙◌, subst, arith, lit≤, append_assoc, append-nil}
 use Rattle.std.specs.Prelude.{⊤, codes, Option, Some, None, Result, Ok, Err, option_map, slice_get}
 use Rattle.std.specs.List.{AllByRecursion as Each, join_with_byte, list_all}
 use Rattle.std.specs.Ordering.{nat_cmp, ordering_then, is_lt}
@@ -18,8 +18,8 @@ use Rattle.st_base.specs.declared.entry.Mark.{Mark}
 use Rattle.st_base.specs.declared.entry.Mark.TheVariants.{Put, Gone}
 use Rattle.st_model.specs.Word.{word}
 use Rattle.cmd_text.specs.declared.fault.BuildFault.{BuildFault}
-use Rattle.cmd_text.specs.declared.fault.BuildFault.TheVariants.{Line, TooLarge, NotRising}
-use Rattle.cmd_text.specs.Build.{IsBuildEntry, IsMarkOfBytes, and_then, at_end, build_line, build_of, build_text, build_words, del_entry, entries_from, entry_of_line, entry_of_words, is_above, is_within, put_entry, put_of, some_entries, text_parts, unnumbered, with_build_line, with_entry, with_found}
+use Rattle.cmd_text.specs.declared.fault.BuildFault.TheVariants.{TooLarge, NotRising}
+use Rattle.cmd_text.specs.Build.{IsBuildEntry, IsMarkOfBytes, and_then, at_end, build_line, build_of, build_text, build_words, del_entry, entries_from, entry_of_line, entry_of_words, is_above, is_within, put_entry, put_of, some_entries, text_parts, unnumbered, with_build_line, with_found}
 use Rattle.cmd_text.specs.Commands.{bytes_of_word}
 use Rattle.cmd_text.specs.Lines.{words}
 use Rattle.cmd_text.specs.Replies.{AreBytes}

@@ -1,8 +1,7 @@
 -- Reading a build text line by line.
-use Rattle.std.proofs.Common.{◌≡◌, ℕ, Bool, true, false, cond, not, ◌&&◌, ◌==◌, ◌<◌, ◌≤◌, ◌+◌, ◌-◌, nat_le, IsFalse, IsTrue, List, [], ◌∷◌, ◌++◌, length, length-append, suc, refl, sym, ap, ◌∙◌, subst, arith}
-use Rattle.std.specs.Prelude.{Option, Some, None, Result, Ok, Err, option_map, slice_get}
-use Rattle.std.specs.List.{slice_split}
-use Rattle.std.proofs.lemmas.Bool.{and_left, and_parts, lt-leb}
+use Rattle.std.proofs.Common.{◌≡◌, ℕ, Bool, true, false, cond, not, ◌==◌, ◌<◌, ◌+◌, ◌-◌, nat_le, IsFalse, List, [], ◌∷◌, ◌++◌, length, length-append, refl, sym, ap, ◌∙◌, arith}
+use Rattle.std.specs.Prelude.{Option, Some, None, Ok, Err, option_map, slice_get}
+use Rattle.std.proofs.lemmas.Bool.{and_left, lt-leb}
 use Rattle.std.proofs.lemmas.List.Splits.{length-slice_split}
 use Rattle.st_base.specs.Rows.{last_key}
 use Rattle.st_base.specs.declared.entry.Entry.{Entry}
