@@ -1,7 +1,9 @@
-//! The text of client files and of transcripts: the commands that a client file has, and the line of each reply.
+//! The text of client files, of transcripts and of build text: the commands that a client file has, the line of each
+//! reply, and the entries that a build text has. Bytes are written as words in all three.
 //!
-//! A layer above may rely on this: a client file is read exactly by the definitions in `specs/`, its first faulty
-//! line is named, and what is read back of a transcript's line is the only place and reply that print as it.
+//! A layer above may rely on this: a client file and a build text are read exactly by the definitions in `specs/`, and
+//! their first faulty line is named; the build text of entries is read as these entries, and no other text is; what is
+//! read back of a transcript's line is the only place and reply that print as it.
 #![tactic(auto)]
 
 mod build;
