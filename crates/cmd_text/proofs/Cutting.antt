@@ -1,11 +1,13 @@
 -- The first part of a text that is cut at a byte.
-use Rattle.std.proofs.Common.{◌≡◌, ℕ, Bool, true, false, not, cond, ◌==◌, ◌<◌, ◌≤◌, ◌+◌, ◌-◌, nat_lt, suc, List, [], ◌∷◌, length, take, drop, length-drop, refl, sym, ap, ◌∙◌, subst, arith}
+use Rattle.std.proofs.Common.{◌≡◌, ℕ, Bool, true, false, not, cond, ◌==◌, ◌<◌, ◌≤◌, ◌+◌, ◌-◌, nat_lt, suc, List, [], ◌∷◌, ◌++◌, length, take, drop, get_or, length-drop, refl, sym, ap, ◌∙◌, subst, arith}
 use Rattle.std.specs.Prelude.{Some, None, position}
 use Rattle.std.specs.List.{slice_split, onto_first, position_or_len}
 use Rattle.std.proofs.lemmas.List.Splits.{slice_split_first, length-slice_split}
-use Rattle.std.proofs.lemmas.List.{drop_all, take_all}
+use Rattle.std.proofs.lemmas.List.{drop_all, drop_more, take_all, take-append-drop}
+use Rattle.std.proofs.lemmas.List.Quantifiers.{position-Some}
+use Rattle.std.proofs.lemmas.Bool.{eqb-true}
 use Rattle.std.proofs.lemmas.Bool.Decides.{nat_tests}
-use Rattle.cmd_text.specs.Lines.{lines, words, without_empty_last}
+use Rattle.cmd_text.specs.Lines.{lines, without_empty_last}
 
 -- ---- a list that is cut where a test passes
 
@@ -70,13 +72,22 @@ lines_last text some e =
     ap without_empty_last (cut_whole (λ byte. byte == 10) text (position_none (λ byte. byte == 10) text e))
     ∙ without_empty_last-one text some ∙ ap (λ rest. text ∷ lines rest) (sym (behind text (length text) ∙ drop_all (length text) text (omega arith)))
 
--- ---- the words of a line
+-- ---- the parts between a byte
 
--- a word behind which a space stands
-pub words_first : (line : List ℕ) (end : ℕ) → position (λ byte. byte == 32) line ≡ Some end → words line ≡ take end line ∷ words (take (length line - (end + 1)) (drop (end + 1) line))
-words_first line end e =
-    cut_some (λ byte. byte == 32) line 0 end e ∙ ap (λ left. take end line ∷ words left) (sym (behind line (end + 1)))
+-- a part behind which the byte stands
+pub parts_first : (c : ℕ) (text : List ℕ) (end : ℕ) → position (λ byte. byte == c) text ≡ Some end → slice_split (λ byte. byte == c) text ≡ take end text ∷ slice_split (λ byte. byte == c) (take (length text - (end + 1)) (drop (end + 1) text))
+parts_first c text end e =
+    cut_some (λ byte. byte == c) text 0 end e ∙ ap (λ left. take end text ∷ slice_split (λ byte. byte == c) left) (sym (behind text (end + 1)))
 
--- the last word
-pub words_last : (line : List ℕ) → position (λ byte. byte == 32) line ≡ None → words line ≡ line ∷ []
-words_last line e = cut_whole (λ byte. byte == 32) line (position_none (λ byte. byte == 32) line e)
+-- the last part
+pub parts_last : (c : ℕ) (text : List ℕ) → position (λ byte. byte == c) text ≡ None → slice_split (λ byte. byte == c) text ≡ text ∷ []
+parts_last c text e = cut_whole (λ byte. byte == c) text (position_none (λ byte. byte == c) text e)
+
+-- the part, the byte, and what stands behind it
+pub parts_around : (c : ℕ) (text : List ℕ) (end : ℕ) → position (λ byte. byte == c) text ≡ Some end → text ≡ take end text ++ c ∷ take (length text - (end + 1)) (drop (end + 1) text)
+parts_around c text end e =
+    let at = position-Some (λ byte. byte == c) text end 0 e in
+    sym (take-append-drop end text)
+    ∙ ap (λ left. take end text ++ left) (drop_more text end 0 at.0)
+    ∙ ap (λ byte. take end text ++ byte ∷ drop (end + 1) text) (eqb-true (get_or text end 0) c at.1)
+    ∙ ap (λ left. take end text ++ c ∷ left) (sym (behind text (end + 1)))

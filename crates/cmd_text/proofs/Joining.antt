@@ -3,7 +3,8 @@ use Rattle.std.proofs.Common.{◌≡◌, ℕ, Bool, true, false, cond, not, ◌=
 use Rattle.std.specs.Prelude.{flat_map}
 use Rattle.std.specs.Fmt.{decimal}
 use Rattle.std.specs.List.{list_all, join_with_byte, slice_split, onto_first}
-use Rattle.std.proofs.lemmas.Bool.{false≢true, ne_eqb}
+use Rattle.std.proofs.lemmas.Bool.{false≢true, ne_eqb, eq-eqb, cond-true, and_parts, and_from}
+use Rattle.std.proofs.lemmas.Bool.Decides.{nat_tests}
 use Rattle.std.proofs.lemmas.Fmt.{decimal_by_steps}
 use Rattle.std.proofs.lemmas.List.Folds.{list_all-append}
 use Rattle.st_base.specs.Names.{is_family, is_family_byte}
@@ -16,120 +17,113 @@ use Rattle.st_model.specs.declared.reply.Reply.TheVariants.{Written, Found, Noth
 use Rattle.cmd_text.specs.Lines.{words}
 use Rattle.cmd_text.specs.Replies.{IsPrinted, IsPrintedRefusal}
 
--- no byte is a space
-abbrev has_no_space : List ℕ → Bool
-has_no_space bytes = list_all (λ byte. not (byte == 32)) bytes
+-- no byte is this one
+abbrev pub lacks : ℕ → List ℕ → Bool
+lacks c bytes = list_all (λ byte. not (byte == c)) bytes
 
--- whether the byte is a space
-abbrev is_space : ℕ → Bool
-is_space byte = byte == 32
+-- the parts of a list that is cut at this byte
+abbrev parts_at : ℕ → List ℕ → List (List ℕ)
+parts_at c bytes = slice_split (λ byte. byte == c) bytes
 
-and-left : (x y : Bool) → (x && y) ≡ true → x ≡ true
-and-left true y e = refl
-and-left false y e = absurd (false≢true e)
+-- ---- a list is cut between its parts
 
-and-right : (x y : Bool) → (x && y) ≡ true → y ≡ true
-and-right true y e = e
-and-right false y e = absurd (false≢true e)
+cut-cons : (c byte : ℕ) (bytes first : List ℕ) (others : List (List ℕ)) (b : Bool) → not b ≡ true → parts_at c bytes ≡ first ∷ others → cond b ([] ∷ parts_at c bytes) (onto_first byte (parts_at c bytes)) ≡ (byte ∷ first) ∷ others
+cut-cons c byte bytes first others true other e = absurd (false≢true other)
+cut-cons c byte bytes first others false other e = ap (onto_first byte) e
 
-and-both : (x y : Bool) → x ≡ true → y ≡ true → (x && y) ≡ true
-and-both true y e f = f
-and-both false y e f = absurd (false≢true e)
+pub cut_one : (c : ℕ) (first : List ℕ) → lacks c first ≡ true → parts_at c first ≡ first ∷ []
+cut_one c [] lack = refl
+cut_one c (byte ∷ bytes) lack =
+    let each = and_parts (not (byte == c)) (lacks c bytes) lack in
+    cut-cons c byte bytes bytes [] (byte == c) each.0 (cut_one c bytes each.1)
 
--- ---- a line is cut between its words
+pub cut_first : (c : ℕ) (first rest : List ℕ) (others : List (List ℕ)) → lacks c first ≡ true → parts_at c rest ≡ others → parts_at c (first ++ c ∷ rest) ≡ first ∷ others
+cut_first c [] rest others lack e = cond-true (c == c) _ _ (eq-eqb c c refl) ∙ ap (λ v. [] ∷ v) e
+cut_first c (byte ∷ bytes) rest others lack e =
+    let each = and_parts (not (byte == c)) (lacks c bytes) lack in
+    cut-cons c byte (bytes ++ c ∷ rest) bytes others (byte == c) each.0 (cut_first c bytes rest others each.1 e)
 
-cut-cons : (byte : ℕ) (bytes first : List ℕ) (others : List (List ℕ)) (b : Bool) → not b ≡ true → slice_split is_space bytes ≡ first ∷ others → cond b ([] ∷ slice_split is_space bytes) (onto_first byte (slice_split is_space bytes)) ≡ (byte ∷ first) ∷ others
-cut-cons byte bytes first others true other e = absurd (false≢true other)
-cut-cons byte bytes first others false other e = ap (onto_first byte) e
+pub words_join : (first : List ℕ) (others : List (List ℕ)) → list_all (lacks 32) (first ∷ others) ≡ true → words (join_with_byte 32 (first ∷ others)) ≡ first ∷ others
+words_join first [] lack = cut_one 32 first (and_parts (lacks 32 first) true lack).0
+words_join first (next ∷ others) lack =
+    let each = and_parts (lacks 32 first) (list_all (lacks 32) (next ∷ others)) lack in
+    cut_first 32 first (join_with_byte 32 (next ∷ others)) (next ∷ others) each.0 (words_join next others each.1)
 
-cut-one : (first : List ℕ) → has_no_space first ≡ true → words first ≡ first ∷ []
-cut-one [] lacks = refl
-cut-one (byte ∷ bytes) lacks =
-    cut-cons byte bytes bytes [] (is_space byte) (and-left (not (is_space byte)) (has_no_space bytes) lacks)
-    (cut-one bytes (and-right (not (is_space byte)) (has_no_space bytes) lacks))
+-- ---- a word has no byte below `!`
 
-cut-first : (first rest : List ℕ) (others : List (List ℕ)) → has_no_space first ≡ true → words rest ≡ others → words (first ++ 32 ∷ rest) ≡ first ∷ others
-cut-first [] rest others lacks e = ap (λ v. [] ∷ v) e
-cut-first (byte ∷ bytes) rest others lacks e =
-    cut-cons byte (bytes ++ 32 ∷ rest) bytes others (is_space byte) (and-left (not (is_space byte)) (has_no_space bytes) lacks)
-    (cut-first bytes rest others (and-right (not (is_space byte)) (has_no_space bytes) lacks) e)
+pub other_than : (c byte : ℕ) → (byte ≡ c → ⊥) → not (byte == c) ≡ true
+other_than c byte other = ap not (ne_eqb byte c other)
 
-words-join : (first : List ℕ) (others : List (List ℕ)) → list_all has_no_space (first ∷ others) ≡ true → words (join_with_byte 32 (first ∷ others)) ≡ first ∷ others
-words-join first [] lack = cut-one first (and-left (has_no_space first) true lack)
-words-join first (next ∷ others) lack =
-    cut-first first (join_with_byte 32 (next ∷ others)) (next ∷ others)
-    (and-left (has_no_space first) (list_all has_no_space (next ∷ others)) lack)
-    (words-join next others (and-right (has_no_space first) (list_all has_no_space (next ∷ others)) lack))
+-- a test that this byte doesn't pass
+passes : (c : ℕ) (p : ℕ → Bool) (byte : ℕ) → p c ≡ false → p byte ≡ true → not (byte == c) ≡ true
+passes c p byte fails passed = other_than c byte (λ e. false≢true (sym fails ∙ ap p (sym e) ∙ passed))
+
+all-pass : (c : ℕ) (p : ℕ → Bool) (bytes : List ℕ) → p c ≡ false → list_all p bytes ≡ true → lacks c bytes ≡ true
+all-pass c p [] fails passed = refl
+all-pass c p (byte ∷ bytes) fails passed =
+    let each = and_parts (p byte) (list_all p bytes) passed in
+    and_from (not (byte == c)) (lacks c bytes) (passes c p byte fails each.0) (all-pass c p bytes fails each.1)
+
+pub join_lacks : (c : ℕ) (front back : List ℕ) → lacks c front ≡ true → lacks c back ≡ true → lacks c (front ++ back) ≡ true
+join_lacks c front back e f = list_all-append (λ byte. not (byte == c)) front back ∙ and_from (lacks c front) (lacks c back) e f
+
+one-lacks : (c byte : ℕ) → (byte ≡ c → ⊥) → lacks c (byte ∷ []) ≡ true
+one-lacks c byte other = and_from (not (byte == c)) true (other_than c byte other) refl
+
+decimal-lacks : (number : ℕ) → number < 2 ^ 64 → lacks 32 (decimal number) ≡ true
+decimal-lacks number small =
+    decimal_by_steps (λ n digits. lacks 32 digits ≡ true)
+    (λ n h. one-lacks 32 (48 + n) (λ e. omega arith))
+    (λ n digits h lack. join_lacks 32 digits ((48 + n % 10) ∷ []) lack (one-lacks 32 (48 + n % 10) (λ e. omega arith)))
+    number small
+
+digit-by : (c : ℕ) (b : Bool) (digit : ℕ) → c < 33 → cond b (48 + digit) (87 + digit) ≡ c → ⊥
+digit-by c true digit low e = omega arith
+digit-by c false digit low e = omega arith
+
+not-plain : (c : ℕ) → c < 33 → is_plain c ≡ false
+not-plain c low = grind (arith, nat_tests)
+
+byte-by : (c : ℕ) (b : Bool) (byte : ℕ) → c < 33 → is_plain byte ≡ b → lacks c (cond b (byte ∷ []) (92 ∷ 120 ∷ hex_digit (byte / 16) ∷ hex_digit (byte % 16) ∷ [])) ≡ true
+byte-by c true byte low plain = and_from (not (byte == c)) true (passes c is_plain byte (not-plain c low) plain) refl
+byte-by c false byte low plain =
+    and_from (not (92 == c)) _ (other_than c 92 (λ e. omega arith))
+    (and_from (not (120 == c)) _ (other_than c 120 (λ e. omega arith))
+    (and_from (not (hex_digit (byte / 16) == c)) (lacks c (hex_digit (byte % 16) ∷ []))
+    (other_than c (hex_digit (byte / 16)) (digit-by c (nat_lt (byte / 16) 10) (byte / 16) low))
+    (one-lacks c (hex_digit (byte % 16)) (digit-by c (nat_lt (byte % 16) 10) (byte % 16) low))))
+
+bytes-lack : (c : ℕ) (bytes : List ℕ) → c < 33 → lacks c (flat_map byte_word bytes) ≡ true
+bytes-lack c [] low = refl
+bytes-lack c (byte ∷ bytes) low =
+    join_lacks c (byte_word byte) (flat_map byte_word bytes) (byte-by c (is_plain byte) byte low refl) (bytes-lack c bytes low)
+
+pub word_lacks : (c : ℕ) (bytes : List ℕ) → c < 33 → lacks c (word bytes) ≡ true
+word_lacks c [] low =
+    and_from (not (92 == c)) _ (other_than c 92 (λ e. omega arith)) (one-lacks c 101 (λ e. omega arith))
+word_lacks c (byte ∷ bytes) low = bytes-lack c (byte ∷ bytes) low
 
 -- ---- the words of a reply have no space
 
-other-than : (byte : ℕ) → (byte ≡ 32 → ⊥) → not (is_space byte) ≡ true
-other-than byte other = ap not (ne_eqb byte 32 other)
-
--- a test that a space doesn't pass
-passes : (p : ℕ → Bool) (byte : ℕ) → p 32 ≡ false → p byte ≡ true → not (is_space byte) ≡ true
-passes p byte space passed = other-than byte (λ e. false≢true (sym space ∙ ap p (sym e) ∙ passed))
-
-all-pass : (p : ℕ → Bool) (bytes : List ℕ) → p 32 ≡ false → list_all p bytes ≡ true → has_no_space bytes ≡ true
-all-pass p [] space passed = refl
-all-pass p (byte ∷ bytes) space passed =
-    and-both (not (is_space byte)) (has_no_space bytes)
-    (passes p byte space (and-left (p byte) (list_all p bytes) passed))
-    (all-pass p bytes space (and-right (p byte) (list_all p bytes) passed))
-
-join-lacks : (front back : List ℕ) → has_no_space front ≡ true → has_no_space back ≡ true → has_no_space (front ++ back) ≡ true
-join-lacks front back e f =
-    list_all-append (λ byte. not (byte == 32)) front back ∙ and-both (has_no_space front) (has_no_space back) e f
-
-one-lacks : (byte : ℕ) → (byte ≡ 32 → ⊥) → has_no_space (byte ∷ []) ≡ true
-one-lacks byte other = and-both (not (is_space byte)) true (other-than byte other) refl
-
-decimal-lacks : (number : ℕ) → number < 2 ^ 64 → has_no_space (decimal number) ≡ true
-decimal-lacks number small =
-    decimal_by_steps (λ n digits. has_no_space digits ≡ true)
-    (λ n h. one-lacks (48 + n) (λ e. omega arith))
-    (λ n digits h lacks. join-lacks digits ((48 + n % 10) ∷ []) lacks (one-lacks (48 + n % 10) (λ e. omega arith)))
-    number small
-
-digit-by : (b : Bool) (digit : ℕ) → cond b (48 + digit) (87 + digit) ≡ 32 → ⊥
-digit-by true digit e = omega arith
-digit-by false digit e = omega arith
-
-byte-by : (b : Bool) (byte : ℕ) → is_plain byte ≡ b → has_no_space (cond b (byte ∷ []) (92 ∷ 120 ∷ hex_digit (byte / 16) ∷ hex_digit (byte % 16) ∷ [])) ≡ true
-byte-by true byte plain = and-both (not (is_space byte)) true (passes is_plain byte refl plain) refl
-byte-by false byte plain =
-    and-both (not (is_space (hex_digit (byte / 16)))) (has_no_space (hex_digit (byte % 16) ∷ []))
-    (other-than (hex_digit (byte / 16)) (digit-by (nat_lt (byte / 16) 10) (byte / 16)))
-    (one-lacks (hex_digit (byte % 16)) (digit-by (nat_lt (byte % 16) 10) (byte % 16)))
-
-bytes-lack : (bytes : List ℕ) → has_no_space (flat_map byte_word bytes) ≡ true
-bytes-lack [] = refl
-bytes-lack (byte ∷ bytes) =
-    join-lacks (byte_word byte) (flat_map byte_word bytes) (byte-by (is_plain byte) byte refl) (bytes-lack bytes)
-
-word-lacks : (bytes : List ℕ) → has_no_space (word bytes) ≡ true
-word-lacks [] = refl
-word-lacks (byte ∷ bytes) = bytes-lack (byte ∷ bytes)
-
-family-lacks : (name : List ℕ) → IsTrue (is_family name) → has_no_space name ≡ true
+family-lacks : (name : List ℕ) → IsTrue (is_family name) → lacks 32 name ≡ true
 family-lacks name is =
-    all-pass is_family_byte name refl
-    (and-right (nat_le 1 (length name) && nat_le (length name) 64) (list_all is_family_byte name) is)
+    all-pass 32 is_family_byte name refl
+    (and_parts (nat_le 1 (length name) && nat_le (length name) 64) (list_all is_family_byte name) is).1
 
-last-lacks : (bytes : List ℕ) → has_no_space bytes ≡ true → list_all has_no_space (bytes ∷ []) ≡ true
-last-lacks bytes lacks = and-both (has_no_space bytes) true lacks refl
+pub last_lacks : (bytes : List ℕ) → lacks 32 bytes ≡ true → list_all (lacks 32) (bytes ∷ []) ≡ true
+last_lacks bytes lack = and_from (lacks 32 bytes) true lack refl
 
-refusal-lacks : (refusal : Refusal) → IsPrintedRefusal refusal → list_all has_no_space (refusal_words refusal) ≡ true
+refusal-lacks : (refusal : Refusal) → IsPrintedRefusal refusal → list_all (lacks 32) (refusal_words refusal) ≡ true
 refusal-lacks Stopped is = refl
-refusal-lacks (UnknownFamily name) is = last-lacks name (family-lacks name is)
+refusal-lacks (UnknownFamily name) is = last_lacks name (family-lacks name is)
 refusal-lacks NumbersSpent is = refl
 refusal-lacks StoreFull is = refl
 refusal-lacks DiskFault is = refl
 refusal-lacks OutOfMemory is = absurd is
 
-reply-lacks : (reply : Reply) → IsPrinted reply → list_all has_no_space (reply_words reply) ≡ true
-reply-lacks (Written number) is = last-lacks (decimal number) (decimal-lacks number is)
-reply-lacks (Found value) is = last-lacks (word value) (word-lacks value)
+reply-lacks : (reply : Reply) → IsPrinted reply → list_all (lacks 32) (reply_words reply) ≡ true
+reply-lacks (Written number) is = last_lacks (decimal number) (decimal-lacks number is)
+reply-lacks (Found value) is = last_lacks (word value) (word_lacks 32 value (omega arith))
 reply-lacks Nothing is = refl
 reply-lacks (Refused refusal) is = refusal-lacks refusal is
 
@@ -137,5 +131,5 @@ reply-lacks (Refused refusal) is = refusal-lacks refusal is
 pub line_words : (place : ℕ) (reply : Reply) (text : List ℕ) → place < 2 ^ 64 → IsPrinted reply → text ≡ join_with_byte 32 (decimal place ∷ reply_words reply) → words text ≡ decimal place ∷ reply_words reply
 line_words place reply text small is e =
     ap words e
-    ∙ words-join (decimal place) (reply_words reply)
-    (and-both (has_no_space (decimal place)) (list_all has_no_space (reply_words reply)) (decimal-lacks place small) (reply-lacks reply is))
+    ∙ words_join (decimal place) (reply_words reply)
+    (and_from (lacks 32 (decimal place)) (list_all (lacks 32) (reply_words reply)) (decimal-lacks place small) (reply-lacks reply is))

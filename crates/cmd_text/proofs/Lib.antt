@@ -3,3 +3,5 @@ pub mod Behind
 pub mod Printing
 pub mod Spelling
 pub mod Joining
+pub mod Building
+pub mod BuildText

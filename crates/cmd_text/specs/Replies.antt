@@ -13,6 +13,8 @@ use Rattle.st_model.specs.declared.reply.Reply.TheVariants.{Written, Found, Noth
 use Rattle.cmd_text.specs.declared.fault.LineFault.{LineFault}
 use Rattle.cmd_text.specs.declared.fault.LineFault.TheVariants.{NotAReply}
 use Rattle.cmd_text.specs.declared.fault.LineFault.TheVariants as line
+use Rattle.cmd_text.specs.declared.fault.WordFault.{WordFault}
+use Rattle.cmd_text.specs.declared.fault.WordFault.TheVariants as spelling
 
 -- each is a byte
 abbrev pub AreBytes : List ℕ → Type 0
@@ -37,6 +39,12 @@ IsPrinted (Refused refusal) = IsPrintedRefusal refusal
 abbrev pub line_fault_of : MakeFault → LineFault
 line_fault_of Limit = NotAReply
 line_fault_of make.OutOfMemory = line.OutOfMemory
+
+-- what isn't a word of the right length is no part of a reply
+abbrev pub reply_fault_of : WordFault → LineFault
+reply_fault_of spelling.NotAWord = NotAReply
+reply_fault_of spelling.TooLong = NotAReply
+reply_fault_of spelling.OutOfMemory = line.OutOfMemory
 
 -- it is this, unless memory is wanted
 abbrev pub GivesBack : {X : Type 0} → Result X LineFault → X → Type 0

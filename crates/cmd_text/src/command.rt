@@ -1,41 +1,12 @@
-ghost use Rattle.std.specs.Prelude.{◌≡◌, ◌↔◌, codes, IfOk, IsTrue};
-ghost use Rattle.std.specs.List.{list_all};
-ghost use Rattle.std.specs.Option.{option_copied};
-ghost use Rattle.st_base.specs.Bytes.{same};
-ghost use Rattle.st_model.specs.Word.{is_plain};
-ghost use Rattle.cmd_text.specs.Commands.{Gives, bytes_of_word, family_of_word, key_of_word, value_of_word, put_of, del_of, get_of, single, command_named, command_of};
+ghost use Rattle.std.specs.Prelude.{◌≡◌, IfOk};
+ghost use Rattle.cmd_text.specs.Commands.{Gives, family_of_word, key_of_word, value_of_word, put_of, del_of, get_of, single, command_named, command_of};
 
+use crate::bytes::{is, read_key, read_value};
 use crate::fault::CommandFault;
 use crate::words::Words;
 use st_base::{Family, Key, List, Value};
 use st_model::{Batch, Command, Op};
 use std::alloc::{AllocError, Global};
-
-// Whether the byte stands for itself in a word.
-pub(crate) fn is_plain(byte: u8) -> bool
-    ensures { result ≡ is_plain byte }
-{
-    byte.is_ascii_graphic() && byte != b'\\' && byte != b'='
-}
-
-// Whether each byte stands for itself.
-fn are_plain(bytes: &[u8]) -> bool
-    ensures { result ≡ list_all is_plain bytes.now }
-{
-    bytes.iter().all(|byte| is_plain(*byte))
-}
-
-// The bytes that the word stands for.
-fn bytes_of_word(word: &[u8]) -> Option<&[u8]>
-    ensures { option_copied result ≡ bytes_of_word word.now }
-{
-    let plain = are_plain(word);
-    if !word.is_empty() && plain {
-        Some(word)
-    } else {
-        None
-    }
-}
 
 fn family_of_word(alloc: Global, word: &[u8]) -> Result<Family, CommandFault>
     ensures { Gives result (family_of_word word.now) }
@@ -46,15 +17,13 @@ fn family_of_word(alloc: Global, word: &[u8]) -> Result<Family, CommandFault>
 fn key_of_word(alloc: Global, word: &[u8]) -> Result<Key, CommandFault>
     ensures { Gives result (key_of_word word.now) }
 {
-    let bytes = bytes_of_word(word).ok_or(CommandFault::NotACommand)?;
-    Ok(Key::new(alloc, bytes)?)
+    Ok(read_key(alloc, word)?)
 }
 
 fn value_of_word(alloc: Global, word: &[u8]) -> Result<Value, CommandFault>
     ensures { Gives result (value_of_word word.now) }
 {
-    let bytes = bytes_of_word(word).ok_or(CommandFault::NotACommand)?;
-    Ok(Value::new(alloc, bytes)?)
+    Ok(read_value(alloc, word)?)
 }
 
 // `put F K V`
@@ -98,14 +67,6 @@ fn single(alloc: Global, op: Op) -> Result<Command, AllocError>
     let mut ops = List::new(alloc);
     ops.push(op)?;
     Ok(Command::Write(Batch { ops }))
-}
-
-// Whether the bytes are this word.
-pub(crate) fn is(bytes: &[u8], word: &[u8]) -> bool
-    ensures value { result ≡ same bytes.now word.now }
-    ensures same { IsTrue result ↔ (bytes.now ≡ word.now) }
-{
-    bytes == word
 }
 
 // The command of this name with these arguments.

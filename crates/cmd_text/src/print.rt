@@ -4,7 +4,7 @@ ghost use Rattle.st_model.specs.Word.{hex_digit, byte_word, word};
 ghost use Rattle.st_model.specs.Line.{line_of};
 ghost use Rattle.cmd_text.specs.Replies.{Extends, refusal_text, reply_text};
 
-use crate::command::is_plain;
+use crate::bytes::{are_plain, is_plain};
 use st_base::Bytes;
 use st_model::{Refusal, Reply};
 use std::alloc::{AllocError, Global};
@@ -46,13 +46,17 @@ fn push_byte(out: &mut Bytes, byte: u8) -> Result<(), AllocError>
     out.extend_from_slice(spelling.as_slice())
 }
 
-// Puts the spelling of the bytes at the end.
-fn push_word(out: &mut Bytes, bytes: &[u8]) -> Result<(), AllocError>
+// Puts the spelling of the bytes at the end: plain ones as they stand, others byte by byte.
+#[tactic(auto, using(crate::proofs::Spelling::plain_printed))]
+pub(crate) fn push_word(out: &mut Bytes, bytes: &[u8]) -> Result<(), AllocError>
     ensures ok { OnOk result (out.new ≡ out.old ++ word bytes.now) }
     ensures err { OnErr result (Extends out.old out.new) }
 {
     if bytes.is_empty() {
         return out.extend_from_slice(b"\\e");
+    }
+    if are_plain(bytes) {
+        return out.extend_from_slice(bytes);
     }
     for byte in bytes {
         push_byte(out, *byte)?;

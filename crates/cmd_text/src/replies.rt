@@ -1,17 +1,17 @@
 ghost use Rattle.std.specs.Prelude.{◌≡◌, ◌<◌, ◌≤◌, ◌^◌, ◌∷◌, [], ◌++◌, ℕ, List, length, IfOk, IfSome, IsSomeAnd, IsErrOf, Some};
 ghost use Rattle.std.specs.Fmt.{decimal};
 ghost use Rattle.std.specs.Option.{option_copied};
-ghost use Rattle.st_model.specs.Word.{hex_digit, byte_word, word};
+ghost use Rattle.st_model.specs.Word.{word as spelling_of};
 ghost use Rattle.st_model.specs.Line.{line_of, reply_words, refusal_words};
 ghost use Rattle.st_model.specs.declared.refusal.Refusal.{Refusal};
 ghost use Rattle.st_model.specs.declared.reply.Reply.{Reply};
 ghost use Rattle.cmd_text.specs.Replies.{AreBytes, GivesBack, IsPrinted, IsPrintedRefusal};
 
-use crate::command::is;
+use crate::bytes::{is, read_value};
 use crate::fault::LineFault;
 use crate::print::print_reply;
 use crate::words::Words;
-use st_base::{Bytes, Family, Value};
+use st_base::{Family, Value};
 use st_model::{Refusal, Reply};
 use std::alloc::Global;
 use std::str;
@@ -26,52 +26,6 @@ fn read_number(word: &[u8]) -> Option<u64>
     }
 }
 
-// The value of a hexadecimal digit.
-fn hex_value(digit: u8) -> Option<u8>
-    ensures value { (value : ℕ) → value < 16 → digit ≡ hex_digit value → result ≡ Some value }
-    ensures within { IfSome result (λ value. value < 16) }
-{
-    match digit {
-        b'0'..=b'9' => Some(digit - b'0'),
-        b'a'..=b'f' => Some(digit - b'a' + 10),
-        _ => None,
-    }
-}
-
-// The byte at the front of a spelling, and what stands behind it.
-fn first_byte(spelling: &[u8]) -> Option<(u8, &[u8])>
-    ensures first { (byte : ℕ) (rest : List ℕ) → byte < 256 → spelling.now ≡ byte_word byte ++ rest
-        → IsSomeAnd result (λ found. (found.0 ≡ byte) × (found.1.now ≡ rest)) }
-    ensures shorter { IfSome result (λ found. length found.1.now < length spelling.now) }
-{
-    match spelling {
-        [b'\\', _, high, low, rest @ ..] => {
-            let high = hex_value(*high)?;
-            let low = hex_value(*low)?;
-            Some((high * 16 + low, rest))
-        }
-        [byte, rest @ ..] => Some((*byte, rest)),
-        [] => None,
-    }
-}
-
-// The bytes of which this is the spelling.
-fn read_bytes(alloc: Global, spelling: &[u8]) -> Result<Bytes, LineFault>
-    ensures { (bytes : List ℕ) → AreBytes bytes → spelling.now ≡ word bytes → GivesBack result bytes }
-{
-    let mut bytes = Bytes::new(alloc);
-    if is(spelling, b"\\e") {
-        return Ok(bytes);
-    }
-    let mut rest = spelling;
-    while !rest.is_empty() {
-        let (byte, after) = first_byte(rest).ok_or(LineFault::NotAReply)?;
-        bytes.push(byte)?;
-        rest = after;
-    }
-    Ok(bytes)
-}
-
 // The number that is the only word.
 fn read_written(mut words: Words<'_>) -> Result<Reply, LineFault>
     ensures { (number : ℕ) → number < 2 ^ 64 → words.entry ≡ decimal number ∷ [] → GivesBack result (Reply.Written number) }
@@ -81,14 +35,23 @@ fn read_written(mut words: Words<'_>) -> Result<Reply, LineFault>
     Ok(Reply::Written(number))
 }
 
+// The value that the word stands for.
+fn found_value(alloc: Global, word: &[u8]) -> Result<Value, LineFault>
+    ensures { (value : List ℕ) → AreBytes value → length value ≤ 1048576 → word.now ≡ spelling_of value → GivesBack result value }
+{
+    match read_value(alloc, word) {
+        Ok(value) => Ok(value),
+        Err(fault) => Err(LineFault::from(fault)),
+    }
+}
+
 // The value of which the only word is the spelling.
 fn read_found(alloc: Global, mut words: Words<'_>) -> Result<Reply, LineFault>
-    ensures { (value : List ℕ) → AreBytes value → length value ≤ 1048576 → words.entry ≡ word value ∷ []
+    ensures { (value : List ℕ) → AreBytes value → length value ≤ 1048576 → words.entry ≡ spelling_of value ∷ []
         → GivesBack result (Reply.Found value) }
 {
     let word = words.next().ok_or(LineFault::NotAReply)?;
-    let bytes = read_bytes(alloc, word)?;
-    Ok(Reply::Found(Value::new(alloc, bytes.as_slice())?))
+    Ok(Reply::Found(found_value(alloc, word)?))
 }
 
 // The refusal of which these are the words.

@@ -22,6 +22,7 @@ fn lines_are_commands(rt: HostRuntime) {
         ("del default k\n", 1),
         ("# note\nput default k 1\n\nget default k", 2),
         ("put p_0 !~ {}\nput p_0 a 1\nget p_0 !~\n", 3),
+        ("put default \\x20 1\nget default \\x20\ndel default \\e", 3),
     ];
     for (text, commands) in table {
         assert_eq!(rt; count(rt.alloc(), text), Ok(commands), "in {text:?}");
@@ -39,7 +40,12 @@ fn lines_are_faulty(rt: HostRuntime) {
         ("get Default k", 1),
         (" # note", 1),
         ("# note\n\nget default k\nget default a=b\n", 4),
-        ("get default k\nget default \\x20", 2),
+        ("get default k\nget default \\x41", 2),
+        ("get default \\xFF", 1),
+        ("get default \\E", 1),
+        ("get default \\", 1),
+        ("get default \\x2", 1),
+        ("put default k ", 1),
         ("get default k\r\n", 1),
     ];
     for (text, line) in table {
@@ -54,12 +60,12 @@ fn lines_are_faulty(rt: HostRuntime) {
 #[test]
 fn commands_are_read(rt: HostRuntime) -> Result<(), Fail> {
     let alloc = rt.alloc();
-    let script = read_script(alloc, b"\nput p k 1\nget p k")?;
+    let script = read_script(alloc, b"\nput p k\\x00 \\e\nget p k")?;
     let mut ops = List::new(alloc);
     ops.push(Op::Put(
         Family::new(alloc, b"p")?,
-        Key::new(alloc, b"k")?,
-        Value::new(alloc, b"1")?,
+        Key::new(alloc, b"k\x00")?,
+        Value::new(alloc, b"")?,
     ))?;
     let mut commands = List::new(alloc);
     commands.push(Numbered {

@@ -1,5 +1,6 @@
 ghost use Rattle.std.specs.Prelude.{◌≡◌, ◌∷◌, [], MatchOption};
-ghost use Rattle.std.specs.Option.{option_map};
+ghost use Rattle.std.specs.Option.{option_copied, option_map};
+ghost use Rattle.cmd_text.specs.Build.{one_word};
 ghost use Rattle.cmd_text.specs.Lines.{words};
 ghost use Rattle.cmd_text.specs.Commands.{two_words, three_words};
 
@@ -44,6 +45,17 @@ impl<'a> Words<'a> {
                 self.rest = Some(&line[end + 1..]);
                 Some(&line[..end])
             }
+        }
+    }
+
+    /// The word, where one is left.
+    pub fn one(mut self) -> Option<&'a [u8]>
+        ensures { one_word self.entry ≡ option_copied result }
+    {
+        let first = self.next()?;
+        match self.next() {
+            None => Some(first),
+            Some(_) => None,
         }
     }
 
