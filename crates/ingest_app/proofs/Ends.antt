@@ -11,13 +11,14 @@ use Rattle.cmd_text.specs.declared.script.Numbered.{Numbered}
 use Rattle.ingest_app.specs.Client.{client_script}
 use Rattle.ingest_app.specs.Run.{client_of, Ended, EndsNamed, EndsClient, EndsScript, Faulted, IsOfFile, IsScript, IsFaulty, IsDamaged, Writes, HasScript, HasFault, HasStore}
 use Rattle.ingest_app.specs.declared.status.Status.{Status}
-use Rattle.ingest_app.specs.declared.status.Status.TheVariants.{Done, Memory, InputFault, DiskFault, SinkFault, Script, Damaged, NotYet}
+use Rattle.ingest_app.specs.declared.status.Status.TheVariants.{Done, Refused, Memory, InputFault, DiskFault, SinkFault, Script, Damaged, NotYet}
 
 -- a run of a script ends as a run of its file
 pub client_of_script : (file : Option (List ℕ)) (name : List ℕ) (commands : List Numbered) (before after : Told) (status : Status) (text : List ℕ) → client_script file ≡ Ok commands → EndsScript commands name before after status text → EndsClient file name before after status text
 client_of_script file name commands before after Done text read h = record { commands = commands; read = read; ends = h }
 client_of_script file name commands before after DiskFault text read h = record { commands = commands; read = read; ends = h }
 client_of_script file name commands before after Damaged text read h = record { commands = commands; read = read; ends = h }
+client_of_script file name commands before after Refused text read h = absurd h
 client_of_script file name commands before after Memory text read h = absurd h
 client_of_script file name commands before after InputFault text read h = absurd h
 client_of_script file name commands before after SinkFault text read h = absurd h
@@ -30,6 +31,7 @@ named_of_file name before after disk left Done text is fault h = h
 named_of_file name before after disk left DiskFault text is fault h = (fault refl, h)
 named_of_file name before after disk left Damaged text is fault h = h
 named_of_file name before after disk left Script text is fault h = h
+named_of_file name before after disk left Refused text is fault h = absurd is
 named_of_file name before after disk left Memory text is fault h = absurd is
 named_of_file name before after disk left InputFault text is fault h = absurd is
 named_of_file name before after disk left SinkFault text is fault h = absurd is
@@ -41,7 +43,7 @@ some_then P Q f None h = h
 some_then P Q f (Some x) h = f x h
 
 -- or a fact that doesn't depend on it
-some_gives : {A Q : Type 0} (P : A → Type 0) → ((x : A) → P x → Q) → (found : Option A) → IsSomeAnd found P → Q
+pub some_gives : {A Q : Type 0} (P : A → Type 0) → ((x : A) → P x → Q) → (found : Option A) → IsSomeAnd found P → Q
 some_gives P f None h = absurd h
 some_gives P f (Some x) h = f x h
 
@@ -62,6 +64,7 @@ module _ (words : List (List ℕ)) (before after : InputsTold) (disk left : Told
   not_yet_of SinkFault h e = cc
   not_yet_of Script h e = cc
   not_yet_of Damaged h e = cc
+  not_yet_of Refused h e = cc
 
   pub input_fault_of : (status : Status) → EndsSo status → status ≡ InputFault → Rose before.faults after.faults
   input_fault_of InputFault h e = some_gives (λ name. EndsNamed name before after disk left InputFault h.0) (λ name ends. ends.0) (client_of words) h.1
@@ -72,6 +75,7 @@ module _ (words : List (List ℕ)) (before after : InputsTold) (disk left : Told
   input_fault_of SinkFault h e = cc
   input_fault_of Script h e = cc
   input_fault_of Damaged h e = cc
+  input_fault_of Refused h e = cc
 
   pub disk_fault_of : (status : Status) → EndsSo status → status ≡ DiskFault → Faulted disk left
   disk_fault_of DiskFault h e = some_gives (λ name. EndsNamed name before after disk left DiskFault h.0) (λ name ends. ends.0) (client_of words) h.1
@@ -82,6 +86,7 @@ module _ (words : List (List ℕ)) (before after : InputsTold) (disk left : Told
   disk_fault_of SinkFault h e = cc
   disk_fault_of Script h e = cc
   disk_fault_of Damaged h e = cc
+  disk_fault_of Refused h e = cc
 
   pub sink_fault_of : (status : Status) → EndsSo status → status ≡ SinkFault → Rose sink_before.faults sink_after.faults
   sink_fault_of SinkFault h e = h.0
@@ -92,6 +97,7 @@ module _ (words : List (List ℕ)) (before after : InputsTold) (disk left : Told
   sink_fault_of DiskFault h e = cc
   sink_fault_of Script h e = cc
   sink_fault_of Damaged h e = cc
+  sink_fault_of Refused h e = cc
 
   pub memory_of : (status : Status) → EndsSo status → status ≡ Memory → Writes sink_before sink_after []
   memory_of Memory h e = λ known. h.2 known ∙ ap (λ text. sink_before.written ++ text) h.1
@@ -102,6 +108,7 @@ module _ (words : List (List ℕ)) (before after : InputsTold) (disk left : Told
   memory_of DiskFault h e = cc
   memory_of Script h e = cc
   memory_of Damaged h e = cc
+  memory_of Refused h e = cc
 
   pub script_of_status : (status : Status) → EndsSo status → status ≡ Script → IsTrue before.known → HasFault words before
   script_of_status Script h e known =
@@ -113,6 +120,7 @@ module _ (words : List (List ℕ)) (before after : InputsTold) (disk left : Told
   script_of_status DiskFault h e known = cc
   script_of_status Memory h e known = cc
   script_of_status Damaged h e known = cc
+  script_of_status Refused h e known = cc
 
   pub damaged_of : (status : Status) → EndsSo status → status ≡ Damaged → IsTrue before.known → IsHonest disk → IsDamaged disk
   damaged_of Damaged h e known honest =
@@ -124,6 +132,7 @@ module _ (words : List (List ℕ)) (before after : InputsTold) (disk left : Told
   damaged_of DiskFault h e known honest = cc
   damaged_of Memory h e known honest = cc
   damaged_of Script h e known honest = cc
+  damaged_of Refused h e known honest = cc
 
   pub done_of : (status : Status) → EndsSo status → status ≡ Done → IsTrue before.known → HasScript words before
   done_of Done h e known =
@@ -135,6 +144,7 @@ module _ (words : List (List ℕ)) (before after : InputsTold) (disk left : Told
   done_of DiskFault h e known = cc
   done_of Memory h e known = cc
   done_of Damaged h e known = cc
+  done_of Refused h e known = cc
 
   -- a file isn't both a script and faulty
   both_kinds : (found : Option (List ℕ)) → IsSomeAnd found (λ name. (commands : List Numbered) × (client_script (before.file name) ≡ Ok commands)) → IsSomeAnd found (λ name. (line : ℕ) × (client_script (before.file name) ≡ Err line)) → ⊥
@@ -154,3 +164,4 @@ module _ (words : List (List ℕ)) (before after : InputsTold) (disk left : Told
   complete_of Script h known has store no_input no_disk no_sink = absurd (both_kinds (client_of words) has (script_of_status Script h refl known))
   complete_of Damaged h known has store no_input no_disk no_sink = let d = damaged_of Damaged h refl known store.0 in absurd (both_stores (opens disk.reads) store.1.0 d.0 store.1.1 d.1)
   complete_of NotYet h known has store no_input no_disk no_sink = absurd (nothing_there (λ name. (commands : List Numbered) × (client_script (before.file name) ≡ Ok commands)) (client_of words) h.1.0 has)
+  complete_of Refused h known has store no_input no_disk no_sink = absurd (some_gives (λ name. EndsNamed name before after disk left Refused h.0) (λ name ends. ends) (client_of words) h.1)

@@ -4,3 +4,8 @@ pub mod Ends
 pub mod Fits
 pub mod Opening
 pub mod Printed
+pub mod Wrote
+pub mod Converting
+pub mod Built
+pub mod Lines
+pub mod Shown

@@ -20,7 +20,7 @@ use Rattle.ingest_app.specs.Client.{EndsAnswered, IsAnswered, IsRun, opening_of}
 use Rattle.ingest_app.specs.Crash.{state_after}
 use Rattle.ingest_app.specs.Run.{EndsOpening, EndsScript, StaysAsRead}
 use Rattle.ingest_app.specs.declared.status.Status.{Status}
-use Rattle.ingest_app.specs.declared.status.Status.TheVariants.{Done, Memory, InputFault, DiskFault, SinkFault, Script, Damaged, NotYet}
+use Rattle.ingest_app.specs.declared.status.Status.TheVariants.{Done, Refused, Memory, InputFault, DiskFault, SinkFault, Script, Damaged, NotYet}
 
 -- ---- the contents of a state that was opened
 
@@ -77,6 +77,7 @@ module _ (name : List ℕ) (commands : List Numbered) (text : List ℕ) (before 
   pub answered_ends : (status : Status) → EndsAnswered name commands (opening_of ops) mid after status text → EndsScript commands name before after status text
   answered_ends Done h = is_run false h
   answered_ends DiskFault h = inl (is_run true h)
+  answered_ends Refused h = absurd h
   answered_ends Memory h = absurd h
   answered_ends InputFault h = absurd h
   answered_ends SinkFault h = absurd h

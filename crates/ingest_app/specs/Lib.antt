@@ -4,3 +4,4 @@ pub mod Op
 pub mod Answer
 pub mod Run
 pub mod Status
+pub mod Convert

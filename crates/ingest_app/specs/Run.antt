@@ -15,7 +15,7 @@ use Rattle.st_wal.specs.declared.logged.Logged.{Logged}
 use Rattle.cmd_text.specs.declared.script.Numbered.{Numbered}
 use Rattle.ingest_app.specs.Client.{client_script, IsRun}
 use Rattle.ingest_app.specs.declared.status.Status.{Status}
-use Rattle.ingest_app.specs.declared.status.Status.TheVariants.{Done, Memory, InputFault, DiskFault, SinkFault, Script, Damaged, NotYet}
+use Rattle.ingest_app.specs.declared.status.Status.TheVariants.{Done, Refused, Memory, InputFault, DiskFault, SinkFault, Script, Damaged, NotYet}
 
 -- the name of the client, where the words are `run NAME`
 abbrev pub client_of : List (List ℕ) → Option (List ℕ)
@@ -125,13 +125,19 @@ Writes before after text = IsTrue before.known → after.written ≡ before.writ
 abbrev pub WritesPrefix : SinkTold → SinkTold → List ℕ → Type 0
 WritesPrefix before after text = IsTrue before.known → AppendsPrefix before.written after.written text
 
--- the run ended with this status and wrote the text of it; or the sink failed while it took the text of some status
+-- the sink took the text, and the status is this one; or it failed
+abbrev pub Wrote : Status → List ℕ → SinkTold → SinkTold → Status → Type 0
+Wrote wanted text before after status =
+    ((status ≡ wanted) × Writes before after text) ⊎ ((status ≡ SinkFault) × Rose before.faults after.faults × WritesPrefix before after text)
+
+-- it ended with this status and wrote a text that goes with it; or the sink failed while it took the text of some status
+abbrev pub Written : (Status → List ℕ → Type 0) → SinkTold → SinkTold → Status → Type 0
+Written ends before after SinkFault = Rose before.faults after.faults × ((status : Status) × (text : List ℕ) × ends status text × WritesPrefix before after text)
+Written ends before after status = (text : List ℕ) × ends status text × Writes before after text
+
+-- the run of these words ended with this status and wrote its text, or a part of it
 abbrev pub Ended : List (List ℕ) → InputsTold → InputsTold → Told → Told → SinkTold → SinkTold → Status → Type 0
-Ended words before after disk left sink_before sink_after SinkFault =
-    Rose sink_before.faults sink_after.faults
-    × ((status : Status) × (text : List ℕ) × Ends words before after disk left status text × WritesPrefix sink_before sink_after text)
-Ended words before after disk left sink_before sink_after status =
-    (text : List ℕ) × Ends words before after disk left status text × Writes sink_before sink_after text
+Ended words before after disk left sink_before sink_after status = Written (Ends words before after disk left) sink_before sink_after status
 
 -- ---- what a client's file and the disk are
 

@@ -1,20 +1,30 @@
-//! The program: reads a client file, answers its commands in order, and writes its transcript.
+//! The program: reads a client file, answers its commands in order, and writes its transcript; or makes a table of a build
+//! text, and a build text of a table.
 //!
-//! What is proved of the program stands on `run`, which `main` calls over the files of the working folder and standard
-//! output.
+//! What is proved of the program stands on `run`, which `main` calls over the files of the working folder, standard input
+//! and standard output.
 #![tactic(auto)]
 
 mod answer;
+mod build;
 mod client;
+mod convert;
+#[cfg(test)]
+mod convert_tests;
+mod laws;
 mod outcome;
 mod run;
+mod show;
 mod status;
 #[cfg(test)]
 mod tests;
+mod write;
 
+pub use convert::{Conversion, convert};
+pub use laws::show_gives_back_what_was_built;
 pub use run::run;
 use st_device::FolderDisk;
-use st_stream::{FolderInputs, StdSink};
+use st_stream::{FolderInputs, StdSink, StdSource};
 pub use status::Status;
 use std::env::{self, Env};
 use std::fs::File;
@@ -32,14 +42,22 @@ fn words_of<R: Env + AllocGlobal>(rt: &R) -> io::Result<Vec<String>> {
 }
 
 // Runs the words over the working folder and standard output.
-fn run_here<R: Files<File = File> + Print + Env + AllocGlobal + Clone + Drop>(
+fn run_here<R: Files<File = File> + Print + Input + Env + AllocGlobal + Clone + Drop>(
     rt: &R,
 ) -> io::Result<Status> {
     let words = words_of(rt)?;
     let mut inputs = FolderInputs::new(rt.clone()?);
+    let mut source = StdSource::new(rt);
     let mut sink = StdSink::new(rt.clone()?);
     let disk = FolderDisk::new(rt.clone()?);
-    let (status, _) = run(rt.alloc(), words.as_slice(), disk, &mut inputs, &mut sink);
+    let (status, _) = run(
+        rt.alloc(),
+        words.as_slice(),
+        disk,
+        &mut inputs,
+        &mut source,
+        &mut sink,
+    );
     Ok(status)
 }
 

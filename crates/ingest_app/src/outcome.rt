@@ -229,8 +229,8 @@ fn run_client<D: Disk, I: Inputs>(
     }
 }
 
-// What words that are no form are answered.
-fn not_yet(alloc: Global) -> Result<Outcome, AllocError>
+/// What words that are no form are answered.
+pub fn not_yet(alloc: Global) -> Result<Outcome, AllocError>
     ensures { IfOk result (λ outcome. (outcome.status ≡ Status.NotYet) × (outcome.text ≡ not_yet_text)) }
 {
     Ok(Outcome {

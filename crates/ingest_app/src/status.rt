@@ -4,11 +4,13 @@ ghost use Rattle.ingest_app.specs.Status.{status_number};
 /// How a run ends.
 #[derive(Clone, Copy, Debug, PartialEq, Eq, Drop)]
 pub enum Status {
-    /// The transcript is written.
+    /// The transcript is written, or the table, or the build text.
     Done,
+    /// The source is no build text of a table, or no external table: `refused` and the cause are written.
+    Refused,
     /// Memory is wanted, and nothing is written.
     Memory,
-    /// The input files have failed: `input NAME` is written.
+    /// The input files have failed: `input NAME` is written. Or the source has: `input` is written.
     InputFault,
     /// The disk has failed: at the opening `disk` is written, else the transcript.
     DiskFault,
@@ -29,6 +31,7 @@ impl Status {
     {
         match self {
             Status::Done => 0,
+            Status::Refused => 1,
             Status::Memory => 3,
             Status::InputFault => 4,
             Status::DiskFault => 5,

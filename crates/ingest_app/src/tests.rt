@@ -1,7 +1,7 @@
 use crate::{Status, run};
 use st_base::{Bytes, List, Name};
 use st_device::{Disk, Fate, MemDisk};
-use st_stream::{InputFile, MemInputs, MemSink};
+use st_stream::{InputFile, MemInputs, MemSink, MemSource};
 use std::alloc::Global;
 use std::process::Abort;
 use std::test::Fail;
@@ -25,6 +25,12 @@ fn inputs(alloc: Global, text: &str, failing: &[u64]) -> Result<MemInputs, Fail>
     Ok(MemInputs::new(files, List::from_slice(alloc, failing)?))
 }
 
+// A source of these bytes, whose call of this number fails.
+fn source(alloc: Global, bytes: &[u8], failing: u64) -> Result<MemSource, Fail> {
+    let failing = List::from_slice(alloc, &[failing])?;
+    Ok(MemSource::new(Bytes::from_slice(alloc, bytes)?, failing))
+}
+
 // A disk without files, whose call of this number fails.
 fn disk(alloc: Global, failing: u64) -> Result<MemDisk, Fail> {
     Ok(MemDisk::new(alloc, vec![in alloc; failing]?))
@@ -42,8 +48,16 @@ fn expect(
     let alloc = rt.alloc();
     let words = words(alloc, line)?;
     let mut inputs = inputs(alloc, text, &[])?;
+    let mut source = source(alloc, &[], 0)?;
     let mut sink = MemSink::new(alloc, List::new(alloc));
-    let (found, disk) = run(alloc, words.as_slice(), disk, &mut inputs, &mut sink);
+    let (found, disk) = run(
+        alloc,
+        words.as_slice(),
+        disk,
+        &mut inputs,
+        &mut source,
+        &mut sink,
+    );
     assert_eq!(rt; found, status, "{line}");
     assert!(rt; sink.bytes() == written.as_bytes(), "{line}");
     Ok(disk)
@@ -73,7 +87,13 @@ fn rows(rt: HostRuntime) -> Result<(), Fail> {
         ("run", ROW, Status::NotYet, "notyet\n"),
         ("run one two", ROW, Status::NotYet, "notyet\n"),
         ("run -one", ROW, Status::NotYet, "notyet\n"),
-        ("build", ROW, Status::NotYet, "notyet\n"),
+        ("build it", ROW, Status::NotYet, "notyet\n"),
+        (
+            "run one",
+            "put default \\x20 1\nget default \\x20\n",
+            Status::Done,
+            "client one\n1 written 1\n1 value 1\n",
+        ),
         (
             "run one",
             "gut default k\n",
@@ -106,7 +126,15 @@ fn faults(rt: HostRuntime) -> Result<(), Fail> {
         let disk = disk(rt.alloc(), 0)?;
         let mut inputs = inputs(rt.alloc(), ROW, &[input])?;
         let mut sink = MemSink::new(rt.alloc(), List::from_slice(rt.alloc(), &[sink])?);
-        let (found, _) = run(rt.alloc(), words.as_slice(), disk, &mut inputs, &mut sink);
+        let mut source = source(rt.alloc(), &[], 0)?;
+        let (found, _) = run(
+            rt.alloc(),
+            words.as_slice(),
+            disk,
+            &mut inputs,
+            &mut source,
+            &mut sink,
+        );
         assert_eq!(rt; found, status);
         assert!(rt; sink.bytes() == written.as_bytes());
     }
@@ -181,7 +209,15 @@ fn reads_as(
     let left = disk.after_crash(alloc, disk.moment(), &[fate; 40], Vec::new(alloc))?;
     let mut inputs = inputs(alloc, "get default a\n", &[])?;
     let mut sink = MemSink::new(alloc, List::new(alloc));
-    let (status, _) = run(alloc, words.as_slice(), left, &mut inputs, &mut sink);
+    let mut source = source(alloc, &[], 0)?;
+    let (status, _) = run(
+        alloc,
+        words.as_slice(),
+        left,
+        &mut inputs,
+        &mut source,
+        &mut sink,
+    );
     assert_eq!(rt; status, Status::Done);
     let read = sink.bytes();
     assert!(rt; read == before.as_bytes() || read == after.as_bytes());
@@ -216,7 +252,15 @@ fn stop_at(rt: &(impl Abort + AllocGlobal), call: u64) -> Result<(), Fail> {
     let mut inputs = inputs(alloc, WRITES, &[])?;
     let mut sink = MemSink::new(alloc, List::new(alloc));
     let disk = disk(alloc, call)?;
-    let (_, disk) = run(alloc, words.as_slice(), disk, &mut inputs, &mut sink);
+    let mut source = source(alloc, &[], 0)?;
+    let (_, disk) = run(
+        alloc,
+        words.as_slice(),
+        disk,
+        &mut inputs,
+        &mut source,
+        &mut sink,
+    );
     let mut known = false;
     for (text, before, after) in STOPPED {
         if sink.bytes() == text.as_bytes() && before < 4 && after < 4 {

@@ -1,0 +1,40 @@
+-- The end of a run or a conversion whose outcome was handed to the sink.
+use Rattle.std.proofs.Common.{◌≡◌, ◌⊎◌, inl, inr, ℕ, List, [], ◌++◌, refl, sym, ◌∙◌, ap, subst, append-nil}
+use Rattle.std.specs.Prelude.{IfOk, IsErr, Result, Ok, Err}
+use Rattle.st_base.specs.Count.{Rose}
+use Rattle.st_stream.specs.Sink.{SinkTold}
+use Rattle.ingest_app.specs.Run.{Written, Writes, WritesPrefix, Wrote}
+use Rattle.ingest_app.specs.declared.outcome.Outcome.{Outcome}
+use Rattle.ingest_app.specs.declared.status.Status.{Status}
+use Rattle.ingest_app.specs.declared.status.Status.TheVariants.{Done, Refused, Memory, InputFault, DiskFault, SinkFault, Script, Damaged, NotYet}
+
+module _ (ends : Status → List ℕ → Type 0) (before after : SinkTold) (no_sink : (text : List ℕ) → ends SinkFault text → ⊥) where
+  -- the sink took the text
+  took : (wanted : Status) (text : List ℕ) → ends wanted text → Writes before after text → Written ends before after wanted
+  took Done text h w = (text, h, w)
+  took Refused text h w = (text, h, w)
+  took Memory text h w = (text, h, w)
+  took InputFault text h w = (text, h, w)
+  took DiskFault text h w = (text, h, w)
+  took Script text h w = (text, h, w)
+  took Damaged text h w = (text, h, w)
+  took NotYet text h w = (text, h, w)
+  took SinkFault text h w = absurd (no_sink text h)
+
+  -- an outcome that was handed to the sink
+  pub written_of : (wanted : Status) (text : List ℕ) (status : Status) → ends wanted text → Wrote wanted text before after status → Written ends before after status
+  written_of wanted text status h (inl w) = subst (Written ends before after) (sym w.0) (took wanted text h w.1)
+  written_of wanted text status h (inr w) = subst (Written ends before after) (sym w.0) (w.1, (wanted, text, h, w.2))
+
+-- want of memory leaves the sink as it was
+pub unwritten : (ends : Status → List ℕ → Type 0) (sink : SinkTold) → ends Memory [] → Written ends sink sink Memory
+unwritten ends sink h = ([], h, λ known. sym (append-nil sink.written))
+
+module _ {K E : Type 0} (tells : K → SinkTold) (ends : Status → List ℕ → Type 0) (no_sink : (text : List ℕ) → ends SinkFault text → ⊥) (memory : ends Memory []) where
+  -- an outcome, or want of memory, that was handed to the sink
+  pub ended_of : (old new : K) (outcome : Result Outcome E) (status : Status) → IfOk outcome (λ outcome. ends outcome.status outcome.text) → IfOk outcome (λ outcome. Wrote outcome.status outcome.text (tells old) (tells new) status)
+      → (IsErr outcome → (status ≡ Memory) × (new ≡ old)) → Written ends (tells old) (tells new) status
+  ended_of old new (Ok outcome) status h wrote none = written_of ends (tells old) (tells new) no_sink outcome.status outcome.text status h wrote
+  ended_of old new (Err error) status h wrote none =
+      let is = none refl in
+      subst (λ k. Written ends (tells old) (tells k) status) (sym is.1) (subst (Written ends (tells old) (tells old)) (sym is.0) (unwritten ends (tells old) memory))
