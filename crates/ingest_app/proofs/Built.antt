@@ -1,5 +1,5 @@
 -- The table that is built of a text is shown as this text.
-use Rattle.std.proofs.Common.{◌≡◌, ◌⊎◌, inl, inr, ℕ, ◌+◌, ◌<◌, ◌≤◌, ◌^◌, Bool, true, false, not, cond, nat_le, List, [], ◌∷◌, ◌++◌, length, Option, Some, None, IsTrue, refl, sym, ◌∙◌, ap, subst, arith, lit≤}
+use Rattle.std.proofs.Common.{◌≡◌, ◌⊎◌, inl, inr, ℕ, ◌+◌, ◌<◌, ◌≤◌, ◌^◌, Bool, true, false, not, cond, List, [], ◌∷◌, ◌++◌, length, Option, Some, None, IsTrue, refl, sym, ◌∙◌, ap, subst, arith, lit≤}
 use Rattle.std.specs.Prelude.{Result, Ok, Err, ◌↔◌}
 use Rattle.std.specs.List.{AllByRecursion as Each}
 use Rattle.std.proofs.lemmas.Bool.Decides.{nat_tests}
@@ -14,8 +14,8 @@ use Rattle.st_table.specs.declared.kind.TableKind.TheVariants.{External}
 use Rattle.cmd_text.specs.declared.fault.BuildFault.{BuildFault}
 use Rattle.cmd_text.specs.declared.fault.BuildFault.TheVariants.{TooLarge, NotRising}
 use Rattle.cmd_text.specs.Build.{IsBuildEntry, and_then, at_end, build_of, build_text, entries_from, entry_of_line, is_above, is_within, some_entries, text_parts, with_build_line, with_found}
-use Rattle.ingest_app.specs.Convert.{EndsBytes, IsBuilt, IsFaultyTable, IsShown, fit_table}
-use Rattle.ingest_app.specs.declared.convert.Conversion.TheVariants.{Build, Show}
+use Rattle.ingest_app.specs.Convert.{EndsBytes, IsBuilt, IsShown, fit_table}
+use Rattle.ingest_app.specs.declared.convert.Conversion.TheVariants.{Show}
 use Rattle.ingest_app.specs.declared.status.Status.{Status}
 use Rattle.ingest_app.specs.declared.status.Status.TheVariants.{Done, Refused, Memory, InputFault, DiskFault, SinkFault, Script, Damaged, NotYet}
 

@@ -1,5 +1,5 @@
 -- The lines of a build text, given to a table's writer one by one.
-use Rattle.std.proofs.Common.{◌≡◌, inl, ℕ, ◌+◌, ◌<◌, ◌≤◌, Bool, true, false, nat_le, List, [], ◌∷◌, ◌++◌, length, Option, Some, None, IsTrue, IsFalse, refl, sym, ◌∙◌, ap, subst}
+use Rattle.std.proofs.Common.{◌≡◌, inl, ℕ, ◌<◌, ◌≤◌, Bool, true, false, List, [], ◌∷◌, ◌++◌, length, Option, Some, None, IsFalse, refl, sym, ◌∙◌, ap, subst}
 use Rattle.std.specs.Prelude.{Result, Ok, Err, ◌↔◌}
 use Rattle.std.proofs.lemmas.Bool.{le-leb, lt-leb}
 use Rattle.st_base.specs.Rows.{last_key}
@@ -17,7 +17,7 @@ use Rattle.sst_writer.specs.declared.fault.WriterFault.TheVariants as writer
 use Rattle.cmd_text.specs.declared.fault.BuildFault.{BuildFault}
 use Rattle.cmd_text.specs.declared.fault.BuildFault.TheVariants as build
 use Rattle.cmd_text.specs.Build.{GivesMore, build_of, entries_from, is_above, is_within, some_entries, text_parts, unnumbered, with_build_line, with_entry}
-use Rattle.cmd_text.proofs.Building.{build_end, build_line_fault, build_line_read, build_cut, entry_added, entry_not_fitting, entry_not_rising}
+use Rattle.cmd_text.proofs.Building.{build_end, build_line_fault, build_cut, entry_added, entry_not_fitting, entry_not_rising}
 use Rattle.ingest_app.specs.Convert.{EndsBytes, GivesTable, GivesWriter, build_cause, fault_at, fit_table, refused_text, source_limit, unfinished}
 use Rattle.ingest_app.specs.declared.convert.Conversion.TheVariants.{Build}
 use Rattle.ingest_app.specs.declared.status.Status.{Status}

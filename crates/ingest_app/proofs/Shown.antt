@@ -1,6 +1,6 @@
 -- The build text of a table's rows.
-use Rattle.std.proofs.Common.{◌≡◌, ℕ, ◌+◌, ◌==◌, Bool, true, List, [], ◌∷◌, ◌++◌, map, take, refl, sym, ◌∙◌, ap, subst, append-nil}
-use Rattle.std.specs.Prelude.{Some, slice_get, flat_map}
+use Rattle.std.proofs.Common.{◌≡◌, ℕ, ◌+◌, List, [], ◌∷◌, ◌++◌, take, refl, sym, ◌∙◌, ap, subst, append-nil}
+use Rattle.std.specs.Prelude.{Some, slice_get}
 use Rattle.std.proofs.lemmas.List.{take_more}
 use Rattle.std.proofs.lemmas.List.Concat.{flat_map-append}
 use Rattle.std.proofs.lemmas.Option.{get_or_from_slice_get, slice_get_within}
@@ -8,7 +8,7 @@ use Rattle.st_base.specs.Rows.{entry_of}
 use Rattle.st_base.specs.declared.entry.Entry.{Entry}
 use Rattle.st_base.specs.declared.entry_ref.EntryRef.{EntryRef}
 use Rattle.st_table.specs.IsTable.{IsTable}
-use Rattle.st_table.specs.Table.{act_under, acting}
+use Rattle.st_table.specs.Table.{acting}
 use Rattle.st_table.specs.declared.kind.TableKind.TheVariants.{External}
 use Rattle.cmd_text.specs.Build.{build_line, build_text}
 use Rattle.ingest_app.specs.Convert.{IsShown}

@@ -1,9 +1,8 @@
 -- The end of a run or a conversion whose outcome was handed to the sink.
-use Rattle.std.proofs.Common.{◌≡◌, ◌⊎◌, inl, inr, ℕ, List, [], ◌++◌, refl, sym, ◌∙◌, ap, subst, append-nil}
+use Rattle.std.proofs.Common.{◌≡◌, inl, inr, ℕ, List, [], refl, sym, subst, append-nil}
 use Rattle.std.specs.Prelude.{IfOk, IsErr, Result, Ok, Err}
-use Rattle.st_base.specs.Count.{Rose}
 use Rattle.st_stream.specs.Sink.{SinkTold}
-use Rattle.ingest_app.specs.Run.{Written, Writes, WritesPrefix, Wrote}
+use Rattle.ingest_app.specs.Run.{Written, Writes, Wrote}
 use Rattle.ingest_app.specs.declared.outcome.Outcome.{Outcome}
 use Rattle.ingest_app.specs.declared.status.Status.{Status}
 use Rattle.ingest_app.specs.declared.status.Status.TheVariants.{Done, Refused, Memory, InputFault, DiskFault, SinkFault, Script, Damaged, NotYet}

@@ -7,7 +7,6 @@ use Rattle.st_base.specs.Count.{Rose}
 use Rattle.st_base.specs.Faults.{printed_table_fault}
 use Rattle.st_base.specs.declared.entry.Entry.{Entry}
 use Rattle.st_base.specs.declared.faults.TableFault.{TableFault}
-use Rattle.st_base.specs.declared.faults.TableFault.TheVariants as table
 use Rattle.st_stream.specs.Source.{SourceTold}
 use Rattle.st_stream.specs.Sink.{SinkTold}
 use Rattle.st_table.specs.Footer.{greatest_size}
@@ -26,7 +25,7 @@ use Rattle.ingest_app.specs.Run.{Written, not_yet_text}
 use Rattle.ingest_app.specs.declared.convert.Conversion.{Conversion}
 use Rattle.ingest_app.specs.declared.convert.Conversion.TheVariants.{Build, Show}
 use Rattle.ingest_app.specs.declared.status.Status.{Status}
-use Rattle.ingest_app.specs.declared.status.Status.TheVariants.{Done, Refused, Memory, InputFault, DiskFault, SinkFault, Script, Damaged, NotYet}
+use Rattle.ingest_app.specs.declared.status.Status.TheVariants.{Done, Refused, Memory, InputFault, NotYet}
 
 -- the conversion that the words ask for: `build` or `show`
 abbrev pub conversion_of : List (List ℕ) → Option Conversion

@@ -15,7 +15,7 @@ use Rattle.st_wal.specs.declared.logged.Logged.{Logged}
 use Rattle.cmd_text.specs.declared.script.Numbered.{Numbered}
 use Rattle.ingest_app.specs.Client.{client_script, IsRun}
 use Rattle.ingest_app.specs.declared.status.Status.{Status}
-use Rattle.ingest_app.specs.declared.status.Status.TheVariants.{Done, Refused, Memory, InputFault, DiskFault, SinkFault, Script, Damaged, NotYet}
+use Rattle.ingest_app.specs.declared.status.Status.TheVariants.{Done, Memory, InputFault, DiskFault, SinkFault, Script, Damaged, NotYet}
 
 -- the name of the client, where the words are `run NAME`
 abbrev pub client_of : List (List ℕ) → Option (List ℕ)

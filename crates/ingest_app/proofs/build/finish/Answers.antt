@@ -1,4 +1,4 @@
-use Rattle.ingest_app.proofs.Lines.{finished_gives, unfinished_gives}
+use Rattle.ingest_app.proofs.Lines.{finished_gives}
 use Rattle.ingest_app.proofs.build.finish.Goals as goal
 
 pub returns-in-Ok : goal.returns-in-Ok

@@ -1,6 +1,5 @@
-use Rattle.std.proofs.Common.{map, string_bytes, refl, sym, ◌∙◌}
+use Rattle.std.proofs.Common.{map, string_bytes, refl, sym}
 use Rattle.ingest_app.specs.Convert.{Converted, EndsNoForm, EndsSource, conversion_of}
-use Rattle.ingest_app.specs.Run.{Written}
 use Rattle.ingest_app.proofs.Converting.{match_none, match_some, no_form_ends}
 use Rattle.ingest_app.proofs.Answering.{if_ok_map}
 use Rattle.ingest_app.proofs.Wrote.{ended_of}

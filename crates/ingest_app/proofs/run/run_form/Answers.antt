@@ -1,5 +1,5 @@
-use Rattle.std.proofs.Common.{map, string_bytes, refl, sym, ◌∙◌}
-use Rattle.ingest_app.specs.Convert.{Converted, conversion_of}
+use Rattle.std.proofs.Common.{map, string_bytes, sym}
+use Rattle.ingest_app.specs.Convert.{conversion_of}
 use Rattle.ingest_app.proofs.Converting.{match_again, match_none}
 use Rattle.ingest_app.proofs.run.run_form.Goals as goal
 

@@ -1,4 +1,4 @@
-use Rattle.std.proofs.Common.{List, ℕ, map, string_bytes, refl}
+use Rattle.std.proofs.Common.{map, string_bytes, refl}
 use Rattle.ingest_app.specs.Run.{client_of, Ends, EndsNamed}
 use Rattle.ingest_app.specs.declared.status.Status.TheVariants.{SinkFault}
 use Rattle.ingest_app.proofs.Ends.{some_gives}

@@ -1,5 +1,3 @@
-use Rattle.std.proofs.Common.{◌≡◌, ap, ◌∙◌}
-use Rattle.cmd_text.specs.Build.{build_text}
 use Rattle.ingest_app.proofs.Shown.{opened_shown}
 use Rattle.ingest_app.proofs.show.show.Goals as goal
 
