@@ -13,7 +13,7 @@ use Rattle.st_table.specs.Footer.{footer_of, greatest_size}
 use Rattle.st_table.specs.Table.{first_fault, table_of}
 use Rattle.st_table.specs.declared.kind.TableKind.TheVariants.{External}
 use Rattle.ingest_app.specs.Convert.{Converted, EndsBytes, EndsNoForm, EndsSource, IsConvertible, IsOfBytes, IsUnconvertible, refused_text, source_limit}
-use Rattle.ingest_app.specs.Run.{Written, Writes, not_yet_text}
+use Rattle.ingest_app.specs.Run.{EndsWriting, Writes, not_yet_text}
 use Rattle.ingest_app.specs.declared.convert.Conversion.{Conversion}
 use Rattle.ingest_app.specs.declared.convert.Conversion.TheVariants.{Build, Show}
 use Rattle.ingest_app.specs.declared.status.Status.{Status}
@@ -197,10 +197,10 @@ module _ (before after : SourceTold) (sink_before sink_after : SinkTold) where
 
 module _ (found : Option Conversion) (before after : SourceTold) (sink_before sink_after : SinkTold) where
   abbrev pub ConvertEnded : Status → Type 0
-  ConvertEnded status = MatchOption found (Written EndsNoForm sink_before sink_after status) (λ form. Converted form before after sink_before sink_after status)
+  ConvertEnded status = MatchOption found (EndsWriting EndsNoForm sink_before sink_after status) (λ form. Converted form before after sink_before sink_after status)
 
 -- words that ask for no conversion end as no form, or for want of memory, or with the sink's fault
-pub only_no_form : (sink_before sink_after : SinkTold) (status : Status) → Written EndsNoForm sink_before sink_after status → (status ≡ NotYet) ⊎ (status ≡ Memory) ⊎ (status ≡ SinkFault)
+pub only_no_form : (sink_before sink_after : SinkTold) (status : Status) → EndsWriting EndsNoForm sink_before sink_after status → (status ≡ NotYet) ⊎ (status ≡ Memory) ⊎ (status ≡ SinkFault)
 only_no_form sb sa NotYet h = inl refl
 only_no_form sb sa Memory h = inr (inl refl)
 only_no_form sb sa SinkFault h = inr (inr refl)
@@ -212,7 +212,7 @@ only_no_form sb sa Script h = absurd h.1
 only_no_form sb sa Damaged h = absurd h.1
 
 module _ (before after : SourceTold) (sink_before sink_after : SinkTold) (status : Status) where
-  no-form : Written EndsNoForm sink_before sink_after status → (other : Status) → (other ≡ NotYet → ⊥) → (other ≡ Memory → ⊥) → (other ≡ SinkFault → ⊥) → status ≡ other → ⊥
+  no-form : EndsWriting EndsNoForm sink_before sink_after status → (other : Status) → (other ≡ NotYet → ⊥) → (other ≡ Memory → ⊥) → (other ≡ SinkFault → ⊥) → status ≡ other → ⊥
   no-form h other n m s e = ⊎_elim (λ (x : status ≡ NotYet). n (sym e ∙ x)) (λ rest. ⊎_elim (λ (x : status ≡ Memory). m (sym e ∙ x)) (λ (x : status ≡ SinkFault). s (sym e ∙ x)) rest) (only_no_form sink_before sink_after status h)
 
   pub convert_not_yet : (found : Option Conversion) → ConvertEnded found before after sink_before sink_after status → status ≡ NotYet → found ≡ None
@@ -223,7 +223,7 @@ module _ (before after : SourceTold) (sink_before sink_after : SinkTold) (status
   convert_input None h e = absurd (no-form h InputFault (λ x. cc x) (λ x. cc x) (λ x. cc x) e)
   convert_input (Some form) h e = input_so before after sink_before sink_after form status h e
 
-  sink-none : (s : Status) → Written EndsNoForm sink_before sink_after s → s ≡ SinkFault → Rose sink_before.faults sink_after.faults
+  sink-none : (s : Status) → EndsWriting EndsNoForm sink_before sink_after s → s ≡ SinkFault → Rose sink_before.faults sink_after.faults
   sink-none SinkFault h e = h.0
   sink-none Done h e = absurd (cc e)
   sink-none Refused h e = absurd (cc e)
@@ -234,7 +234,7 @@ module _ (before after : SourceTold) (sink_before sink_after : SinkTold) (status
   sink-none Damaged h e = absurd (cc e)
   sink-none NotYet h e = absurd (cc e)
 
-  memory-none : (s : Status) → Written EndsNoForm sink_before sink_after s → s ≡ Memory → Writes sink_before sink_after []
+  memory-none : (s : Status) → EndsWriting EndsNoForm sink_before sink_after s → s ≡ Memory → Writes sink_before sink_after []
   memory-none Memory h e = λ known. h.2 known ∙ ap (λ text. sink_before.written ++ text) h.1
   memory-none Done h e = absurd (cc e)
   memory-none Refused h e = absurd (cc e)

@@ -4,7 +4,7 @@ pub mod Ends
 pub mod Fits
 pub mod Opening
 pub mod Printed
-pub mod Wrote
+pub mod Outcomes
 pub mod Converting
 pub mod Built
 pub mod Lines

@@ -21,7 +21,7 @@ use Rattle.sst_writer.specs.declared.fault.WriterFault.TheVariants as writer
 use Rattle.cmd_text.specs.Build.{build_of, build_text, some_entries}
 use Rattle.cmd_text.specs.declared.fault.BuildFault.{BuildFault}
 use Rattle.cmd_text.specs.declared.fault.BuildFault.TheVariants as build
-use Rattle.ingest_app.specs.Run.{Written, not_yet_text}
+use Rattle.ingest_app.specs.Run.{EndsWriting, not_yet_text}
 use Rattle.ingest_app.specs.declared.convert.Conversion.{Conversion}
 use Rattle.ingest_app.specs.declared.convert.Conversion.TheVariants.{Build, Show}
 use Rattle.ingest_app.specs.declared.status.Status.{Status}
@@ -139,7 +139,7 @@ EndsSource form before after other text = ⊥
 
 -- the conversion ended with this status and wrote the text of it; or the sink failed while it took the text of some status
 abbrev pub Converted : Conversion → SourceTold → SourceTold → SinkTold → SinkTold → Status → Type 0
-Converted form before after sink_before sink_after status = Written (EndsSource form before after) sink_before sink_after status
+Converted form before after sink_before sink_after status = EndsWriting (EndsSource form before after) sink_before sink_after status
 
 -- what words that ask for no conversion are answered
 abbrev pub EndsNoForm : Status → List ℕ → Type 0

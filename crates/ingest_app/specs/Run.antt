@@ -126,18 +126,18 @@ abbrev pub WritesPrefix : SinkTold → SinkTold → List ℕ → Type 0
 WritesPrefix before after text = IsTrue before.known → AppendsPrefix before.written after.written text
 
 -- the sink took the text, and the status is this one; or it failed
-abbrev pub Wrote : Status → List ℕ → SinkTold → SinkTold → Status → Type 0
-Wrote wanted text before after status =
+abbrev pub WritesOutcome : Status → List ℕ → SinkTold → SinkTold → Status → Type 0
+WritesOutcome wanted text before after status =
     ((status ≡ wanted) × Writes before after text) ⊎ ((status ≡ SinkFault) × Rose before.faults after.faults × WritesPrefix before after text)
 
 -- it ended with this status and wrote a text that goes with it; or the sink failed while it took the text of some status
-abbrev pub Written : (Status → List ℕ → Type 0) → SinkTold → SinkTold → Status → Type 0
-Written ends before after SinkFault = Rose before.faults after.faults × ((status : Status) × (text : List ℕ) × ends status text × WritesPrefix before after text)
-Written ends before after status = (text : List ℕ) × ends status text × Writes before after text
+abbrev pub EndsWriting : (Status → List ℕ → Type 0) → SinkTold → SinkTold → Status → Type 0
+EndsWriting ends before after SinkFault = Rose before.faults after.faults × ((status : Status) × (text : List ℕ) × ends status text × WritesPrefix before after text)
+EndsWriting ends before after status = (text : List ℕ) × ends status text × Writes before after text
 
 -- the run of these words ended with this status and wrote its text, or a part of it
 abbrev pub Ended : List (List ℕ) → InputsTold → InputsTold → Told → Told → SinkTold → SinkTold → Status → Type 0
-Ended words before after disk left sink_before sink_after status = Written (Ends words before after disk left) sink_before sink_after status
+Ended words before after disk left sink_before sink_after status = EndsWriting (Ends words before after disk left) sink_before sink_after status
 
 -- ---- what a client's file and the disk are
 

@@ -2,7 +2,7 @@
 ghost use Rattle.std.specs.Prelude.{◌≡◌, ◌⊎◌, ◌≤◌, ◌<◌, [], List, ℕ, None, length, IfOk, IsTrue, IsSome, IsSomeAnd, MatchOption, map, String, string_bytes};
 ghost use Rattle.st_base.specs.Count.{Rose};
 ghost use Rattle.ingest_app.specs.Convert.{Converted, EndsBytes, EndsNoForm, EndsSource, IsConvertible, IsOfBytes, IsUnconvertible, conversion_of, refused_text, source_text};
-ghost use Rattle.ingest_app.specs.Run.{Writes, Written};
+ghost use Rattle.ingest_app.specs.Run.{Writes, EndsWriting};
 ghost use Rattle.st_stream.specs.SourceRead.{IsReadWithin, source_read};
 
 use crate::build::build;
@@ -123,7 +123,7 @@ fn convert_words<S: Source, K: Sink>(
     source: &mut S,
     sink: &mut K,
 ) -> Status
-    ensures { MatchOption (conversion_of (map string_bytes words.now)) (Written EndsNoForm (K.tells sink.old) (K.tells sink.new) result) (λ form. Converted form (S.tells source.old) (S.tells source.new) (K.tells sink.old) (K.tells sink.new) result) }
+    ensures { MatchOption (conversion_of (map string_bytes words.now)) (EndsWriting EndsNoForm (K.tells sink.old) (K.tells sink.new) result) (λ form. Converted form (S.tells source.old) (S.tells source.new) (K.tells sink.old) (K.tells sink.new) result) }
 {
     match conversion_of(words) {
         Some(form) => {
@@ -145,7 +145,7 @@ pub fn convert<S: Source, K: Sink>(
     sink: &mut K,
 ) -> Status
     // What was written, status by status: after Done the table, or the build text; after Refused the first fault.
-    ensures ended { MatchOption (conversion_of (map string_bytes words.now)) (Written EndsNoForm (K.tells sink.old) (K.tells sink.new) result) (λ form. Converted form (S.tells source.old) (S.tells source.new) (K.tells sink.old) (K.tells sink.new) result) }
+    ensures ended { MatchOption (conversion_of (map string_bytes words.now)) (EndsWriting EndsNoForm (K.tells sink.old) (K.tells sink.new) result) (λ form. Converted form (S.tells source.old) (S.tells source.new) (K.tells sink.old) (K.tells sink.new) result) }
 
     // When each status comes.
     ensures not_yet { result ≡ Status.NotYet → conversion_of (map string_bytes words.now) ≡ None }

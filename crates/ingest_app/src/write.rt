@@ -1,6 +1,6 @@
 //! The writing of an outcome.
 ghost use Rattle.std.specs.Prelude.{◌≡◌, IfOk, IsErr};
-ghost use Rattle.ingest_app.specs.Run.{Writes, Wrote};
+ghost use Rattle.ingest_app.specs.Run.{Writes, WritesOutcome};
 
 use crate::outcome::Outcome;
 use crate::status::Status;
@@ -9,7 +9,7 @@ use std::alloc::AllocError;
 
 /// Writes the text of an outcome and nothing else, and answers its status, if the sink takes all of the text.
 pub fn write_outcome<K: Sink>(sink: &mut K, outcome: Result<Outcome, AllocError>) -> Status
-    ensures wrote { IfOk outcome (λ outcome. Wrote outcome.status outcome.text (K.tells sink.old) (K.tells sink.new) result) }
+    ensures wrote { IfOk outcome (λ outcome. WritesOutcome outcome.status outcome.text (K.tells sink.old) (K.tells sink.new) result) }
     ensures memory { IsErr outcome → (result ≡ Status.Memory) × (sink.new ≡ sink.old) }
 {
     match outcome {

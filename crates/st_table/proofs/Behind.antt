@@ -69,9 +69,9 @@ rows_more kind front internal value e room rows =
     }
 
 -- what the tests of an entry found, in the words of the list that it is put behind
-pub no_fault : (kind : TableKind) (front slice : List Entry) (place : ℕ) (before : Option Entry) (internal value : List ℕ) → slice ≡ front → place ≡ length front → before ≡ slice_get slice (length slice - 1)
+pub no_fault : (kind : TableKind) (front : List Entry) (place : ℕ) (before : Option Entry) (internal value : List ℕ) → place ≡ length front → before ≡ last_entry front
     → entry_fault kind place before internal value ≡ None → entry_fault kind (length front) (last_entry front) internal value ≡ None
-no_fault kind front slice place before internal value s p b e =
+no_fault kind front place before internal value p b e =
     ap (λ (n : ℕ). entry_fault kind n (last_entry front) internal value) (sym p)
-    ∙ ap (λ (o : Option Entry). entry_fault kind place o internal value) (sym (b ∙ ap last_entry s))
+    ∙ ap (λ (o : Option Entry). entry_fault kind place o internal value) (sym b)
     ∙ e

@@ -1,4 +1,5 @@
 pub mod Acting
+pub mod Arena
 pub mod Behind
 pub mod Grouped
 pub mod Holding

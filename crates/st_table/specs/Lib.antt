@@ -1,5 +1,6 @@
 pub mod DataBlocks
 pub mod Entries
+pub mod EntryArena
 pub mod Footer
 pub mod Found
 pub mod IsTable

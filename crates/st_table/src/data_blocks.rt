@@ -6,11 +6,12 @@ ghost use Rattle.st_table.specs.DataBlocks.{data_of, first_key, last_key, parts,
 ghost use Rattle.st_table.specs.Steps.{Fails};
 
 use crate::entries::push_entries;
+use crate::entry_arena::EntryArena;
 use crate::fault::OpenTableFault;
 use crate::handle::value_handle;
 use crate::kind::TableKind;
 use crate::stored::block_at;
-use st_base::{Bytes, Entries, Scratch, TableFault};
+use st_base::{Bytes, Scratch, TableFault};
 use st_block::{Block, BlockKind, internal_cmp};
 use std::alloc::Global;
 use std::sync::Arc;
@@ -52,11 +53,10 @@ fn parts(item: IndexEntry, block: &Block, scratch: &mut Scratch) -> bool
 // Puts the entries of the data block that the index entry names behind those before, or finds the first fault.
 #[tactic(auto, unfolding(crate::specs::DataBlocks::with_block))]
 fn push_block(
-    alloc: Global,
     bytes: &Arc<Bytes>,
     kind: TableKind,
     item: IndexEntry,
-    entries: &mut Entries,
+    entries: &mut EntryArena,
     scratch: &mut Scratch,
 ) -> Result<(), OpenTableFault>
     ensures ok { OnOk result (with_block kind bytes.now.value item.entry.at item.entry.block item.entry.before.now item.entry.key.now item.entry.value.now entries.old ≡ Ok entries.new) }
@@ -66,7 +66,7 @@ fn push_block(
     let handle = value_handle(bytes.as_slice(), item.at, item.value)?;
     let block = block_at(bytes, handle, BlockKind::Data, scratch)?;
     scratch.keep_and_add(0, &[]);
-    push_entries(alloc, kind, entries, &block, scratch)?;
+    push_entries(kind, entries, &block, scratch)?;
     if parts(item, &block, scratch) {
         Ok(())
     } else {
@@ -82,7 +82,7 @@ pub(crate) fn data_of(
     kind: TableKind,
     at: u64,
     index: &Block,
-) -> Result<Entries, OpenTableFault>
+) -> Result<EntryArena, OpenTableFault>
     requires { at + index.now.end < 2 ^ 64 }
     ensures ok { IfOk result (λ entries. data_of kind bytes.now.value at index.now ≡ Ok entries) }
     ensures rows { IfOk result AreRows }
@@ -91,7 +91,7 @@ pub(crate) fn data_of(
     let mut scratch = Scratch::new(alloc)?;
     let mut before = Scratch::new(alloc)?;
     let mut data_scratch = Scratch::new(alloc)?;
-    let mut entries = Entries::new(alloc);
+    let mut entries = EntryArena::new(alloc);
     let mut place = index.start();
     let mut block = 0;
     while let Some(entry) = index.read(place, &mut scratch) {
@@ -102,7 +102,7 @@ pub(crate) fn data_of(
             block,
             before: before.as_slice(),
         };
-        push_block(alloc, bytes, kind, item, &mut entries, &mut data_scratch)?;
+        push_block(bytes, kind, item, &mut entries, &mut data_scratch)?;
         before.keep_and_add(0, scratch.as_slice());
         block += 1;
         place = entry.next;

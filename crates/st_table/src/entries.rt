@@ -1,20 +1,16 @@
-ghost use Rattle.std.specs.Prelude.{◌≡◌, ◌≤◌, ◌/◌, ◌%◌, [], ◌∷◌, ◌++◌, length, Option, Some, Ok, IfOk, IfErr, OnOk, IsTrue};
-ghost use Rattle.std.specs.Option.{option_copied};
+ghost use Rattle.std.specs.Prelude.{◌≡◌, ◌≤◌, ◌/◌, ◌%◌, [], ◌∷◌, ◌++◌, length, Option, Some, Ok, IfOk, IfErr, OnOk, IsTrue, option_map};
 ghost use Rattle.st_base.specs.Order.{in_order};
-ghost use Rattle.st_base.specs.Rows.{AreRows};
+ghost use Rattle.st_base.specs.Rows.{AreRows, entry_of, mark_of};
 ghost use Rattle.st_block.specs.InternalKey.{user_key};
 ghost use Rattle.st_table.specs.DataBlocks.{last_key};
 ghost use Rattle.st_table.specs.Entries.{entry_fault, entry_under, is_behind, is_kind, mark_under, may_have, with_entries, with_entry};
 ghost use Rattle.st_table.specs.Steps.{Fails};
 
+use crate::entry_arena::EntryArena;
 use crate::fault::OpenTableFault;
 use crate::kind::TableKind;
-use st_base::{
-    Entries, Entry, INTERNAL_KEY_BYTES, KEY_BYTES, Key, MakeFault, Mark, Scratch, TableFault,
-    VALUE_BYTES, Value,
-};
+use st_base::{EntryRef, INTERNAL_KEY_BYTES, KEY_BYTES, MarkRef, Scratch, TableFault, VALUE_BYTES};
 use st_block::{Block, packed};
-use std::alloc::{AllocError, Global};
 use std::cmp::Ordering;
 
 // Whether an entry may have this kind with this value.
@@ -35,13 +31,13 @@ fn may_have(kind: TableKind, number: u64) -> bool
 }
 
 // Whether the key and the sequence number stand behind the entry before, if there is one.
-fn is_behind(before: Option<&Entry>, key: &[u8], number: u64) -> bool
-    ensures { result ≡ is_behind (option_copied before.entry) key.now number }
+fn is_behind(before: Option<EntryRef<'_>>, key: &[u8], number: u64) -> bool
+    ensures { result ≡ is_behind (option_map entry_of before.entry) key.now number }
 {
     let Some(entry) = before else {
         return true;
     };
-    match entry.key.as_bytes().cmp(key) {
+    match entry.key.cmp(key) {
         Ordering::Less => true,
         Ordering::Equal => number < entry.number,
         Ordering::Greater => false,
@@ -61,12 +57,12 @@ fn user_key(internal: &[u8]) -> &[u8]
 fn entry_fault(
     kind: TableKind,
     place: u64,
-    before: Option<&Entry>,
+    before: Option<EntryRef<'_>>,
     internal: &[u8],
     value: &[u8],
 ) -> Option<TableFault>
     requires { length internal.now ≤ INTERNAL_KEY_BYTES }
-    ensures { result ≡ entry_fault kind place (option_copied before.entry) internal.now value.now }
+    ensures { result ≡ entry_fault kind place (option_map entry_of before.entry) internal.now value.now }
 {
     let packed = packed(internal);
     let number = packed / 256;
@@ -85,77 +81,34 @@ fn entry_fault(
     None
 }
 
-// The key of these bytes, of which there are few enough.
-fn key_of(alloc: Global, bytes: &[u8]) -> Result<Key, AllocError>
-    requires { length bytes.now ≤ KEY_BYTES }
-    ensures { IfOk result (λ key. key ≡ bytes.now) }
-{
-    match Key::new(alloc, bytes) {
-        Ok(key) => Ok(key),
-        Err(MakeFault::OutOfMemory) => Err(AllocError),
-        Err(MakeFault::Limit) => unreachable!(),
-    }
-}
-
-// The value of these bytes, of which there are few enough.
-fn value_of(alloc: Global, bytes: &[u8]) -> Result<Value, AllocError>
-    requires { length bytes.now ≤ VALUE_BYTES }
-    ensures { IfOk result (λ value. value ≡ bytes.now) }
-{
-    match Value::new(alloc, bytes) {
-        Ok(value) => Ok(value),
-        Err(MakeFault::OutOfMemory) => Err(AllocError),
-        Err(MakeFault::Limit) => unreachable!(),
-    }
-}
-
 // The mark of an entry of this kind.
-fn mark_under(alloc: Global, kind: u64, value: &[u8]) -> Result<Mark, AllocError>
-    requires { length value.now ≤ VALUE_BYTES }
-    ensures { IfOk result (λ mark. mark ≡ mark_under kind value.now) }
+fn mark_under(kind: u64, value: &[u8]) -> MarkRef<'_>
+    ensures { mark_of result ≡ mark_under kind value.now }
 {
     if kind == 0 {
-        return Ok(Mark::Gone);
+        MarkRef::Gone
+    } else {
+        MarkRef::Put(value)
     }
-    Ok(Mark::Put(value_of(alloc, value)?))
 }
 
 // The entry that an internal key and a value are.
-fn entry_under(alloc: Global, internal: &[u8], value: &[u8]) -> Result<Entry, AllocError>
-    requires key { length internal.now ≤ INTERNAL_KEY_BYTES }
-    requires value { length value.now ≤ VALUE_BYTES }
-    ensures { IfOk result (λ entry. entry ≡ entry_under internal.now value.now) }
+fn entry_under<'a>(internal: &'a [u8], value: &'a [u8]) -> EntryRef<'a>
+    requires { length internal.now ≤ INTERNAL_KEY_BYTES }
+    ensures { entry_of result ≡ entry_under internal.now value.now }
 {
     let packed = packed(internal);
-    let key = key_of(alloc, user_key(internal))?;
-    let mark = mark_under(alloc, packed % 256, value)?;
-    Ok(Entry {
-        key,
+    EntryRef {
+        key: user_key(internal),
         number: packed / 256,
-        mark,
-    })
-}
-
-// Puts the entry that an internal key and a value are at the end.
-fn push_tested(
-    alloc: Global,
-    entries: &mut Entries,
-    internal: &[u8],
-    value: &[u8],
-) -> Result<(), AllocError>
-    requires key { length internal.now ≤ INTERNAL_KEY_BYTES }
-    requires value { length value.now ≤ VALUE_BYTES }
-    ensures { OnOk result (entries.new ≡ entries.old ++ entry_under internal.now value.now ∷ []) }
-{
-    let entry = entry_under(alloc, internal, value)?;
-    entries.push(entry)
+        mark: mark_under(packed % 256, value),
+    }
 }
 
 // Puts the entry that an internal key and a value are behind those before, or finds its fault.
 fn push_entry(
-    alloc: Global,
     kind: TableKind,
-    entries: &mut Entries,
+    entries: &mut EntryArena,
     internal: &[u8],
     value: &[u8],
 ) -> Result<(), OpenTableFault>
@@ -165,11 +118,11 @@ fn push_entry(
     ensures err { IfErr result (λ fault. Fails fault (with_entry kind entries.old internal.now value.now)) }
 {
     let place = entries.len() as u64;
-    let before = entries.as_slice().last();
+    let before = entries.last();
     match entry_fault(kind, place, before, internal, value) {
         Some(fault) => Err(fault.into()),
         None => {
-            push_tested(alloc, entries, internal, value)?;
+            entries.push(entry_under(internal, value))?;
             Ok(())
         }
     }
@@ -178,9 +131,8 @@ fn push_entry(
 /// Puts the entries of a data block behind those before, or finds their first fault. The last key stands in the scratch
 /// then.
 pub(crate) fn push_entries(
-    alloc: Global,
     kind: TableKind,
-    entries: &mut Entries,
+    entries: &mut EntryArena,
     block: &Block,
     scratch: &mut Scratch,
 ) -> Result<(), OpenTableFault>
@@ -191,7 +143,7 @@ pub(crate) fn push_entries(
 {
     let mut at = block.start();
     while let Some(entry) = block.read(at, scratch) {
-        push_entry(alloc, kind, entries, scratch.as_slice(), entry.value)?;
+        push_entry(kind, entries, scratch.as_slice(), entry.value)?;
         at = entry.next;
     }
     Ok(())

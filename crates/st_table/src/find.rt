@@ -1,37 +1,16 @@
 ghost use Rattle.std.specs.Prelude.{◌≡◌, Some, IsTrue, option_map};
-ghost use Rattle.std.specs.Option.{option_copied};
 ghost use Rattle.st_base.specs.Order.{in_order, is_before};
 ghost use Rattle.st_base.specs.Rows.{entry_of, lower_place, mark_of, newest, newest_there};
 
-use st_base::{Entry, EntryRef, Mark, MarkRef, lower_place_parts_entries};
+use crate::entry_arena::EntryArena;
+use st_base::{EntryRef, MarkRef, lower_place_parts_entries};
 use std::cmp::Ordering;
 
-// The mark where it lies.
-fn mark_ref(mark: &Mark) -> MarkRef<'_>
-    ensures { mark_of result ≡ mark.now }
-{
-    match mark {
-        Mark::Put(value) => MarkRef::Put(value.as_bytes()),
-        Mark::Gone => MarkRef::Gone,
-    }
-}
-
-/// The entry where it lies.
-pub(crate) fn entry_ref(entry: &Entry) -> EntryRef<'_>
-    ensures { entry_of result ≡ entry.now }
-{
-    EntryRef {
-        key: entry.key.as_bytes(),
-        number: entry.number,
-        mark: mark_ref(&entry.mark),
-    }
-}
-
 // Whether the entry comes before the place of the key and the number.
-fn is_before(entry: &Entry, key: &[u8], number: u64) -> bool
-    ensures { result ≡ is_before key.now number entry.now }
+fn is_before(entry: EntryRef<'_>, key: &[u8], number: u64) -> bool
+    ensures { result ≡ is_before key.now number (entry_of entry.entry) }
 {
-    match entry.key.as_bytes().cmp(key) {
+    match entry.key.cmp(key) {
         Ordering::Less => true,
         Ordering::Equal => number < entry.number,
         Ordering::Greater => false,
@@ -40,7 +19,7 @@ fn is_before(entry: &Entry, key: &[u8], number: u64) -> bool
 
 /// The place of the first entry at or after the key and the number, or the number of entries. It halves the entries that
 /// are left at each step.
-pub(crate) fn lower_in(entries: &[Entry], key: &[u8], number: u64) -> usize
+pub(crate) fn lower_in(entries: &EntryArena, key: &[u8], number: u64) -> usize
     requires { IsTrue (in_order entries.now) }
     ensures { result ≡ lower_place entries.now key.now number }
 {
@@ -49,7 +28,7 @@ pub(crate) fn lower_in(entries: &[Entry], key: &[u8], number: u64) -> usize
     let mut high = entries.len();
     while low < high {
         let middle = low + (high - low) / 2;
-        if is_before(&entries[middle], key, number) {
+        if is_before(entries.entry(middle), key, number) {
             low = middle + 1;
         } else {
             high = middle;
@@ -59,18 +38,18 @@ pub(crate) fn lower_in(entries: &[Entry], key: &[u8], number: u64) -> usize
 }
 
 // The number and the mark of an entry, if it has the key.
-fn newest_there<'a>(key: &[u8], entry: Option<&'a Entry>) -> Option<(u64, MarkRef<'a>)>
-    ensures { option_map (λ found. (found.0, mark_of found.1)) result ≡ newest_there key.now (option_copied entry.entry) }
+fn newest_there<'a>(key: &[u8], entry: Option<EntryRef<'a>>) -> Option<(u64, MarkRef<'a>)>
+    ensures { option_map (λ found. (found.0, mark_of found.1)) result ≡ newest_there key.now (option_map entry_of entry.entry) }
 {
     match entry {
-        Some(entry) if entry.key.as_bytes() == key => Some((entry.number, mark_ref(&entry.mark))),
+        Some(entry) if entry.key == key => Some((entry.number, entry.mark)),
         _ => None,
     }
 }
 
 /// The number and the mark of the first entry of the key at or below the number: none exactly where there is none.
 pub(crate) fn newest_in<'a>(
-    entries: &'a [Entry],
+    entries: &'a EntryArena,
     key: &[u8],
     number: u64,
 ) -> Option<(u64, MarkRef<'a>)>

@@ -19,6 +19,7 @@
 mod data_blocks;
 mod ending;
 mod entries;
+mod entry_arena;
 mod fault;
 mod find;
 mod footer;

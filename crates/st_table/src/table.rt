@@ -6,14 +6,15 @@ ghost use Rattle.st_table.specs.IsTable.{IsTable};
 ghost use Rattle.st_table.specs.Table.{IsFirstFault, acting, keys_rise, table_of};
 
 use crate::data_blocks::data_of;
+use crate::entry_arena::EntryArena;
 use crate::fault::OpenTableFault;
-use crate::find::{entry_ref, lower_in, newest_in};
+use crate::find::{lower_in, newest_in};
 use crate::footer::footer_of;
 use crate::kind::TableKind;
 use crate::metaindex::properties_handle;
 use crate::properties::properties_fault;
 use crate::stored::block_at;
-use st_base::{Bytes, Entries, EntryRef, MarkRef, Rows, Scratch};
+use st_base::{Bytes, EntryRef, MarkRef, Rows, Scratch};
 use st_block::BlockKind;
 use std::alloc::Global;
 use std::marker::Model;
@@ -21,7 +22,11 @@ use std::sync::Arc;
 
 // The entries of a table of this kind, or its first fault.
 #[tactic(auto, unfolding(crate::specs::Table::table_of))]
-fn table_of(alloc: Global, bytes: &Arc<Bytes>, kind: TableKind) -> Result<Entries, OpenTableFault>
+fn table_of(
+    alloc: Global,
+    bytes: &Arc<Bytes>,
+    kind: TableKind,
+) -> Result<EntryArena, OpenTableFault>
     ensures ok { IfOk result (λ entries. table_of kind bytes.now.value ≡ Ok entries) }
     ensures rows { IfOk result AreRows }
     ensures err { IfErr result (λ fault. Fails fault (table_of kind bytes.now.value)) }
@@ -41,24 +46,11 @@ fn table_of(alloc: Global, bytes: &Arc<Bytes>, kind: TableKind) -> Result<Entrie
     }
 }
 
-// The entries under the number of their table.
-fn renumbered(entries: Entries, number: u64) -> Entries
-    ensures { result ≡ acting number entries }
-{
-    if number == 0 {
-        return entries;
-    }
-    let mut items = entries.into_vec();
-    for place in 0..items.len() {
-        items[place].number = number;
-    }
-    Entries::from(items)
-}
-
-/// An opened table, seen as the list of its entries. It keeps them decoded, so a look-up reads no block.
+/// An opened table, seen as the list of its entries. It keeps them decoded, so a look-up reads no block; an entry takes 40
+/// bytes beside its key and its value.
 #[derive(Drop)]
 pub struct Table {
-    entries: Entries,
+    entries: EntryArena,
 }
 
 impl Model for Table {
@@ -91,7 +83,7 @@ impl Table {
     {
         let entries = table_of(alloc, &bytes, kind)?;
         Ok(Table {
-            entries: renumbered(entries, number),
+            entries: entries.acting(number),
         })
     }
 
@@ -105,7 +97,7 @@ impl Table {
     ) -> Option<(u64, MarkRef<'a>)>
         ensures { option_map (λ found. (found.0, mark_of found.1)) result ≡ newest self.now key.now number }
     {
-        newest_in(self.entries.as_slice(), key, number)
+        newest_in(&self.entries, key, number)
     }
 }
 
@@ -117,21 +109,21 @@ impl Rows for Table {
     }
 
     fn at<'a>(&'a self, place: usize, _scratch: &'a mut Scratch) -> EntryRef<'a> {
-        entry_ref(&self.entries.as_slice()[place])
+        self.entries.entry(place)
     }
 
     fn lower(&self, key: &[u8], number: u64, _scratch: &mut Scratch) -> usize {
-        lower_in(self.entries.as_slice(), key, number)
+        lower_in(&self.entries, key, number)
     }
 
     fn first(&self) -> Option<&[u8]> {
-        let entry = self.entries.as_slice().first()?;
-        Some(entry.key.as_bytes())
+        let entry = self.entries.get(0)?;
+        Some(entry.key)
     }
 
     fn last(&self) -> Option<&[u8]> {
-        let entry = self.entries.as_slice().last()?;
-        Some(entry.key.as_bytes())
+        let entry = self.entries.last()?;
+        Some(entry.key)
     }
 
     fn newest<'a>(
@@ -140,6 +132,6 @@ impl Rows for Table {
         number: u64,
         _scratch: &mut Scratch,
     ) -> Option<(u64, MarkRef<'a>)> {
-        newest_in(self.entries.as_slice(), key, number)
+        newest_in(&self.entries, key, number)
     }
 }

@@ -2,7 +2,7 @@ use Rattle.std.proofs.Common.{map, string_bytes, refl, sym}
 use Rattle.ingest_app.specs.Convert.{Converted, EndsNoForm, EndsSource, conversion_of}
 use Rattle.ingest_app.proofs.Converting.{match_none, match_some, no_form_ends}
 use Rattle.ingest_app.proofs.Answering.{if_ok_map}
-use Rattle.ingest_app.proofs.Wrote.{ended_of}
+use Rattle.ingest_app.proofs.Outcomes.{ended_of}
 use Rattle.ingest_app.proofs.convert.convert_words.Goals as goal
 
 pub returns-in-Some : goal.returns-in-Some

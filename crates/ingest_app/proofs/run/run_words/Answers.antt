@@ -2,7 +2,7 @@ use Rattle.std.proofs.Common.{map, string_bytes, refl}
 use Rattle.ingest_app.specs.Run.{client_of, Ends, EndsNamed}
 use Rattle.ingest_app.specs.declared.status.Status.TheVariants.{SinkFault}
 use Rattle.ingest_app.proofs.Ends.{some_gives}
-use Rattle.ingest_app.proofs.Wrote.{ended_of}
+use Rattle.ingest_app.proofs.Outcomes.{ended_of}
 use Rattle.ingest_app.proofs.run.run_words.Goals as goal
 
 pub returns-clause-ended : goal.returns-clause-ended

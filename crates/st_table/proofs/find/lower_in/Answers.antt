@@ -7,5 +7,5 @@ pub loop-low-init : goal.loop-low-init
 loop-low-init c = record {
   top = omega arith;
   low_is = omega arith;
-  high_is = prefix_len-le-length (is_before c.args.key.now c.args.number) c.args.entries.now;
+  high_is = omega (arith, c.len-high.ensures, prefix_len-le-length (is_before c.args.key.now c.args.number) c.args.entries.now);
 }

@@ -7,12 +7,12 @@ use Rattle.st_table.proofs.table.Table.open.Goals as goal
 
 pub invariant_of-result : goal.invariant_of-result
 invariant_of-result c =
-    subst (λ (l : List Entry). AreRows l) (sym c.renumbered.ensures)
+    subst (λ (l : List Entry). AreRows l) (sym c.acting.ensures)
     (acting_rows c.args.number c.in_ok-entries.entries
     (elim c.requires [ inl e ↦ inl e | inr f ↦ inr (f c.in_ok-entries.entries (table_is c.args.bytes.value c.args.kind c.in_ok-entries.entries c.in_ok-entries.ensures.ok)) ]) c.in_ok-entries.ensures.rows)
 
 pub returns-clause-ok : goal.returns-clause-ok
-returns-clause-ok c = (c.in_ok-entries.entries, table_is c.args.bytes.value c.args.kind c.in_ok-entries.entries c.in_ok-entries.ensures.ok, c.renumbered.ensures)
+returns-clause-ok c = (c.in_ok-entries.entries, table_is c.args.bytes.value c.args.kind c.in_ok-entries.entries c.in_ok-entries.ensures.ok, c.acting.ensures)
 
 pub returns-in_err-entries-clause-bad : goal.returns-in_err-entries-clause-bad
 returns-in_err-entries-clause-bad c =

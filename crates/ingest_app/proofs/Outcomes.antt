@@ -2,14 +2,14 @@
 use Rattle.std.proofs.Common.{◌≡◌, inl, inr, ℕ, List, [], refl, sym, subst, append-nil}
 use Rattle.std.specs.Prelude.{IfOk, IsErr, Result, Ok, Err}
 use Rattle.st_stream.specs.Sink.{SinkTold}
-use Rattle.ingest_app.specs.Run.{Written, Writes, Wrote}
+use Rattle.ingest_app.specs.Run.{EndsWriting, Writes, WritesOutcome}
 use Rattle.ingest_app.specs.declared.outcome.Outcome.{Outcome}
 use Rattle.ingest_app.specs.declared.status.Status.{Status}
 use Rattle.ingest_app.specs.declared.status.Status.TheVariants.{Done, Refused, Memory, InputFault, DiskFault, SinkFault, Script, Damaged, NotYet}
 
 module _ (ends : Status → List ℕ → Type 0) (before after : SinkTold) (no_sink : (text : List ℕ) → ends SinkFault text → ⊥) where
   -- the sink took the text
-  took : (wanted : Status) (text : List ℕ) → ends wanted text → Writes before after text → Written ends before after wanted
+  took : (wanted : Status) (text : List ℕ) → ends wanted text → Writes before after text → EndsWriting ends before after wanted
   took Done text h w = (text, h, w)
   took Refused text h w = (text, h, w)
   took Memory text h w = (text, h, w)
@@ -21,19 +21,19 @@ module _ (ends : Status → List ℕ → Type 0) (before after : SinkTold) (no_s
   took SinkFault text h w = absurd (no_sink text h)
 
   -- an outcome that was handed to the sink
-  pub written_of : (wanted : Status) (text : List ℕ) (status : Status) → ends wanted text → Wrote wanted text before after status → Written ends before after status
-  written_of wanted text status h (inl w) = subst (Written ends before after) (sym w.0) (took wanted text h w.1)
-  written_of wanted text status h (inr w) = subst (Written ends before after) (sym w.0) (w.1, (wanted, text, h, w.2))
+  pub written_of : (wanted : Status) (text : List ℕ) (status : Status) → ends wanted text → WritesOutcome wanted text before after status → EndsWriting ends before after status
+  written_of wanted text status h (inl w) = subst (EndsWriting ends before after) (sym w.0) (took wanted text h w.1)
+  written_of wanted text status h (inr w) = subst (EndsWriting ends before after) (sym w.0) (w.1, (wanted, text, h, w.2))
 
 -- want of memory leaves the sink as it was
-pub unwritten : (ends : Status → List ℕ → Type 0) (sink : SinkTold) → ends Memory [] → Written ends sink sink Memory
+pub unwritten : (ends : Status → List ℕ → Type 0) (sink : SinkTold) → ends Memory [] → EndsWriting ends sink sink Memory
 unwritten ends sink h = ([], h, λ known. sym (append-nil sink.written))
 
 module _ {K E : Type 0} (tells : K → SinkTold) (ends : Status → List ℕ → Type 0) (no_sink : (text : List ℕ) → ends SinkFault text → ⊥) (memory : ends Memory []) where
   -- an outcome, or want of memory, that was handed to the sink
-  pub ended_of : (old new : K) (outcome : Result Outcome E) (status : Status) → IfOk outcome (λ outcome. ends outcome.status outcome.text) → IfOk outcome (λ outcome. Wrote outcome.status outcome.text (tells old) (tells new) status)
-      → (IsErr outcome → (status ≡ Memory) × (new ≡ old)) → Written ends (tells old) (tells new) status
+  pub ended_of : (old new : K) (outcome : Result Outcome E) (status : Status) → IfOk outcome (λ outcome. ends outcome.status outcome.text) → IfOk outcome (λ outcome. WritesOutcome outcome.status outcome.text (tells old) (tells new) status)
+      → (IsErr outcome → (status ≡ Memory) × (new ≡ old)) → EndsWriting ends (tells old) (tells new) status
   ended_of old new (Ok outcome) status h wrote none = written_of ends (tells old) (tells new) no_sink outcome.status outcome.text status h wrote
   ended_of old new (Err error) status h wrote none =
       let is = none refl in
-      subst (λ k. Written ends (tells old) (tells k) status) (sym is.1) (subst (Written ends (tells old) (tells old)) (sym is.0) (unwritten ends (tells old) memory))
+      subst (λ k. EndsWriting ends (tells old) (tells k) status) (sym is.1) (subst (EndsWriting ends (tells old) (tells old)) (sym is.0) (unwritten ends (tells old) memory))

@@ -1,0 +1,29 @@
+-- Entries in an arena: the keys and values of all lie one behind the other, and each has its place among them.
+use Rattle.std.specs.Prelude.{ℕ, ◌≤◌, List, slice_range, Option, Some, None}
+use Rattle.st_base.specs.declared.entry.Entry.{Entry}
+use Rattle.st_base.specs.declared.entry.Mark.{Mark}
+use Rattle.st_base.specs.declared.entry.Mark.TheVariants.{Put, Gone}
+use Rattle.st_table.specs.declared.entry_arena.EntryPlace.{EntryPlace}
+
+-- the mark whose value begins at a place and ends at another; a tombstone has no end
+abbrev pub mark_in : List ℕ → ℕ → Option ℕ → Mark
+mark_in bytes start None = Gone
+mark_in bytes start (Some end) = Put (slice_range bytes start end)
+
+-- the entry at a place
+abbrev pub entry_in : List ℕ → EntryPlace → Entry
+entry_in bytes place = record { key = slice_range bytes place.start place.key_end; number = place.number; mark = mark_in bytes place.key_end place.value_end }
+
+-- a value, if there is one, ends within so many bytes, not before it begins
+abbrev pub EndsValue : ℕ → ℕ → Option ℕ → Type 0
+EndsValue size start None = start ≤ size
+EndsValue size start (Some end) = (start ≤ end) × (end ≤ size)
+
+-- an entry lies within so many bytes
+pub record Lies (size : ℕ) (place : EntryPlace) : Type 0 where
+  pub key_ends : place.start ≤ place.key_end
+  pub value_ends : EndsValue size place.key_end place.value_end
+
+-- a place under a number
+abbrev pub numbered : ℕ → EntryPlace → EntryPlace
+numbered number place = record { start = place.start; key_end = place.key_end; value_end = place.value_end; number = number }
