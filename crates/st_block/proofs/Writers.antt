@@ -2,7 +2,7 @@
 use Rattle.std.proofs.Common.{◌≡◌, ℕ, zero, suc, ◌+◌, ◌-◌, ◌*◌, ◌/◌, ◌%◌, ◌<◌, ◌≤◌, ◌^◌, inl, inr, Bool, true, false, cond, eqb, ltb, List, [], ◌∷◌, ◌++◌, length, take, drop, refl, sym, ap, ◌∙◌, append_assoc, arith}
 use Rattle.std.specs.Prelude.{nat_eq, max}
 use Rattle.std.specs.List.{common_prefix_len, flat_map}
-use Rattle.std.proofs.lemmas.Bool.{cases_Bool, eqb-true}
+use Rattle.std.proofs.lemmas.Bool.{cases_Bool, eqb-true, lt-ltb}
 use Rattle.std.proofs.lemmas.List.{length-append, length-drop, append-nil}
 use Rattle.st_code.specs.Fixed.{fixed32}
 use Rattle.st_code.specs.Varint.{varint, shortest}
@@ -119,6 +119,18 @@ keeps_writing writing key value w room =
     at_most : (t : Bool) → length (cond t (length writing.entries ∷ []) []) ≤ 1
     at_most true = omega arith
     at_most false = omega arith
+
+-- ---- lengths of one byte
+
+one_byte : (n : ℕ) → n < 128 → varint n ≡ n ∷ []
+unfolding shortest
+one_byte n lt = ap (λ (t : Bool). cond t (n ∷ []) ((n % 128 + 128) ∷ shortest 9 (n / 128))) (lt-ltb n 128 lt)
+
+pub short_lengths : (a b c : ℕ) → a < 128 → b < 128 → c < 128 → a ∷ b ∷ c ∷ [] ≡ varint a ++ varint b ++ varint c
+short_lengths a b c p q r =
+    sym (ap (λ (l : List ℕ). l ++ varint b ++ varint c) (one_byte a p)
+    ∙ ap (λ (l : List ℕ). (a ∷ []) ++ l ++ varint c) (one_byte b q)
+    ∙ ap (λ (l : List ℕ). (a ∷ b ∷ []) ++ l) (one_byte c r))
 
 -- ---- room
 

@@ -1,6 +1,7 @@
 ghost use Rattle.std.specs.Prelude.{◌≡◌, ℕ, ◌+◌, ◌-◌, ◌<◌, ◌≤◌, ◌^◌, [], ◌∷◌, ◌++◌, List, IfOk, IsTrue, ◌↔◌, OnErr, OnOk, ◌*◌, length, take, drop, nat_eq, ◌%◌, ◌==◌, if◌then◌else◌};
 ghost use Rattle.std.specs.List.{common_prefix_len, flat_map};
 ghost use Rattle.st_code.specs.Fixed.{fixed32};
+ghost use Rattle.st_code.specs.Varint.{varint};
 ghost use Rattle.st_block.specs.Written.{Appends, entry_bytes, or_zero, shared_of, with_tail};
 
 use st_base::{Bytes, INTERNAL_KEY_BYTES, List, Scratch, VALUE_BYTES};
@@ -19,15 +20,48 @@ fn common_front(one: &[u8], other: &[u8]) -> usize
     place
 }
 
+// Puts three numbers at the end that have one byte each.
+fn put_short_lengths(
+    out: &mut Bytes,
+    shared: usize,
+    unshared: usize,
+    value: usize,
+) -> Result<(), AllocError>
+    requires shared { shared < 128 }
+    requires unshared { unshared < 128 }
+    requires value { value < 128 }
+    ensures ok { OnOk result (out.new ≡ out.old ++ (shared ∷ unshared ∷ value ∷ [])) }
+    ensures err { OnErr result (out.new ≡ out.old) }
+{
+    out.extend_from_slice(&[shared as u8, unshared as u8, value as u8])
+}
+
+// Puts the lengths of an entry at the end, at once where each has one byte; where memory runs out, some of them may stand
+// there.
+fn put_lengths(
+    out: &mut Bytes,
+    shared: usize,
+    unshared: usize,
+    value: usize,
+) -> Result<(), AllocError>
+    ensures ok { OnOk result (out.new ≡ out.old ++ (varint shared ++ varint unshared ++ varint value)) }
+    ensures err { OnErr result (Appends out.old out.new) }
+{
+    if shared < 128 && unshared < 128 && value < 128 {
+        return put_short_lengths(out, shared, unshared, value);
+    }
+    push_varint(out, shared as u64)?;
+    push_varint(out, unshared as u64)?;
+    push_varint(out, value as u64)
+}
+
 // Puts an entry at the end; where memory runs out, some of it may stand there.
 fn put_entry(out: &mut Bytes, shared: usize, key: &[u8], value: &[u8]) -> Result<(), AllocError>
     requires { shared ≤ length key.now }
     ensures ok { OnOk result (out.new ≡ out.old ++ entry_bytes shared key.now value.now) }
     ensures err { OnErr result (Appends out.old out.new) }
 {
-    push_varint(out, shared as u64)?;
-    push_varint(out, (key.len() - shared) as u64)?;
-    push_varint(out, value.len() as u64)?;
+    put_lengths(out, shared, key.len() - shared, value.len())?;
     out.extend_from_slice(&key[shared..])?;
     out.extend_from_slice(value)
 }
@@ -285,7 +319,8 @@ impl BlockWriter {
 
     /// How many bytes `finish` gives.
     pub fn finished_size(&self) -> usize
-        ensures { result ≡ length (finished self.now) }
+        ensures size { result ≡ length (finished self.now) }
+        ensures within { result ≤ 2 ^ 37 }
     {
         self.entries.len() + tail_size(self.restarts.len())
     }

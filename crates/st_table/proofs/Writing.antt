@@ -1,17 +1,17 @@
 -- What a writer of a table keeps.
-use Rattle.std.proofs.Common.{◌≡◌, ℕ, ◌+◌, ◌^◌, ◌<◌, ◌≤◌, Bool, true, false, cond, eqb, leb, List, [], ◌++◌, length, take, sym, ap, subst, ◌∙◌, arith}
+use Rattle.std.proofs.Common.{◌≡◌, ℕ, ◌+◌, ◌*◌, ◌^◌, ◌<◌, ◌≤◌, Bool, true, false, cond, eqb, leb, List, [], ◌++◌, length, take, refl, sym, ap, subst, ◌∙◌, arith}
 use Rattle.std.specs.Prelude.{IsTrue, ◌↔◌}
 use Rattle.std.proofs.lemmas.Bool.{ne_eqb, leb-true, leb-false, false≢true}
 use Rattle.st_base.specs.declared.entry.Entry.{Entry}
 use Rattle.std.proofs.lemmas.List.{length-append}
 use Rattle.std.proofs.Math.Seq.{take-append_seam}
-use Rattle.st_block.proofs.Writers.{entry_some, finished_long, tail_length}
+use Rattle.st_block.proofs.Writers.{entry_some, finished_long, finished_short, tail_length}
 use Rattle.st_block.specs.Written.{Writing, added as added_to_block, entry_bytes, finished as finished_block, shared_of, Holds as BlockHolds}
 use Rattle.st_table.specs.Footer.{greatest_size}
 use Rattle.st_table.specs.Written.{IsWriter, Writer, added, ending, internal_key, value_under, finished, finished_with, handle_bytes, indexed_block, no_entries, stored, table_bytes, with_closed, with_open}
 use Rattle.st_table.specs.declared.kind.TableKind.{TableKind}
 use Rattle.st_table.specs.declared.kind.TableKind.TheVariants.{External, Own}
-use Rattle.st_table.proofs.Sizes.{ending_short, finished_added, finished_either, parts_short, stored_length, table_length, limit_short}
+use Rattle.st_table.proofs.Sizes.{ending_short, finished_added, finished_either, handle_short, parts_short, stored_length, table_length, limit_short}
 
 -- ---- how long the table is
 
@@ -31,6 +31,22 @@ total_is kind count blocks block index handle len size index_size before l s h i
     ∙ ap (λ (n : ℕ). length (ending kind count before (record { offset = n; size = length i' }))) bsize
     ∙ ap (λ (n : ℕ). length (ending kind count before (record { offset = len + size + 5; size = n }))) (sym isize) in
     omega (arith, table_length kind count b' i', e, bsize, isize, b)
+
+-- a bound on it with an entry more
+pub at_most : (w : Writer) (key value : List ℕ)
+    → length (finished_with w.kind (w.count + 1) w.blocks (added_to_block w.block key value) w.index) ≤ length w.blocks + length (finished_block w.block) + length (finished_block w.index) + 2 * length key + length value + 1114
+at_most w key value =
+    let block = added_to_block w.block key value in
+    let len = length w.blocks in
+    let size = length (finished_block block) in
+    let handle = handle_bytes (record { offset = len; size = size }) in
+    let index_size = length (finished_block (added_to_block w.index key handle)) in
+    let before = len + size + 5 + index_size + 5 in
+    omega (arith, total_is w.kind (w.count + 1) w.blocks block w.index handle len size index_size before refl refl refl refl refl, ending_short w.kind (w.count + 1) before (record { offset = len + size + 5; size = index_size }), handle_short (record { offset = len; size = size }), finished_short w.block key value, finished_short w.index key handle, tail_length w.block.entries w.block.restarts, tail_length w.index.entries w.index.restarts)
+
+-- a bound on a block with an entry more
+pub block_at_most : (writing : Writing) (key value : List ℕ) → length (added_to_block writing key value).entries ≤ length (finished_block writing) + length key + length value + 42
+block_at_most writing key value = omega (arith, finished_long (added_to_block writing key value), finished_short writing key value, tail_length writing.entries writing.restarts)
 
 -- ---- a writer without entries
 

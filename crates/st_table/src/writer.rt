@@ -28,6 +28,14 @@ const RESTART_INTERVAL: u32 = 16;
 /// What stands behind the index block has at most so many bytes.
 const ENDING_BYTES: usize = 1_000;
 
+/// An entry that is added makes its block longer by at most so many bytes beside its internal key and its value: three lengths
+/// and a restart.
+const BLOCK_ENTRY_BYTES: usize = 42;
+
+/// An entry that is added makes a table longer by at most so many bytes, beside twice its internal key and once its value:
+/// those of its own block and of the index, a handle, and the trailers of both blocks.
+const ENTRY_BYTES: usize = 114;
+
 /// Why an entry isn't added to a table.
 #[derive(Clone, Copy, Debug, PartialEq, Eq, Drop)]
 pub enum AddFault {
@@ -53,7 +61,9 @@ fn internal_key(alloc: Global, entry: EntryRef<'_>) -> Result<Bytes, AllocError>
         MarkRef::Put(_value) => 1,
         MarkRef::Gone => 0,
     };
-    let mut bytes = Bytes::from_slice(alloc, entry.key)?;
+    let mut bytes = Bytes::new(alloc);
+    bytes.reserve(entry.key.len() + 8)?;
+    bytes.extend_from_slice(entry.key)?;
     push_fixed64(&mut bytes, entry.number * 256 + kind)?;
     Ok(bytes)
 }
@@ -128,8 +138,24 @@ impl TableWriter {
         })
     }
 
-    // Whether the finished table with an entry of this internal key and value more is within the limit of its kind.
-    fn has_room(&self, alloc: Global, internal: &[u8], value: &[u8]) -> Result<bool, AllocError>
+    // A bound on how many bytes the finished table has with an entry of this internal key and value more.
+    fn size_at_most(&self, internal: &[u8], value: &[u8]) -> usize
+        requires key { length internal.now ≤ 65543 }
+        requires value { length value.now ≤ 1048576 }
+        ensures { length (finished_with self.now.kind (self.now.count + 1) self.now.blocks (added_to_block self.now.block internal.now value.now) self.now.index) ≤ result }
+    {
+        let blocks = self.blocks.len() + self.block.finished_size() + self.index.finished_size();
+        blocks + 2 * internal.len() + value.len() + ENTRY_BYTES + ENDING_BYTES
+    }
+
+    // Whether the finished table with an entry of this internal key and value more is within the limit of its kind, by its
+    // exact size.
+    fn has_exact_room(
+        &self,
+        alloc: Global,
+        internal: &[u8],
+        value: &[u8],
+    ) -> Result<bool, AllocError>
         requires key { length internal.now ≤ 65543 }
         requires value { length value.now ≤ 1048576 }
         ensures { IfOk result (λ yes. yes ≡ nat_le (length (finished_with self.now.kind (self.now.count + 1) self.now.blocks (added_to_block self.now.block internal.now value.now) self.now.index)) (greatest_size self.now.kind)) }
@@ -162,6 +188,19 @@ impl TableWriter {
         Ok(before + ending.len() <= limit)
     }
 
+    // Whether the finished table with an entry of this internal key and value more is within the limit of its kind. Its exact
+    // size is looked at only where the limit is near.
+    fn has_room(&self, alloc: Global, internal: &[u8], value: &[u8]) -> Result<bool, AllocError>
+        requires key { length internal.now ≤ 65543 }
+        requires value { length value.now ≤ 1048576 }
+        ensures { IfOk result (λ yes. yes ≡ nat_le (length (finished_with self.now.kind (self.now.count + 1) self.now.blocks (added_to_block self.now.block internal.now value.now) self.now.index)) (greatest_size self.now.kind)) }
+    {
+        if self.size_at_most(internal, value) <= greatest_size(self.kind) as usize {
+            return Ok(true);
+        }
+        self.has_exact_room(alloc, internal, value)
+    }
+
     // Puts an entry at the end and closes its block.
     fn close_with(&mut self, alloc: Global, internal: &[u8], value: &[u8]) -> Result<(), AllocError>
         requires key { length internal.now ≤ 65543 }
@@ -188,6 +227,16 @@ impl TableWriter {
         Ok(())
     }
 
+    // Whether an entry of this internal key and value closes its block. The exact size is looked at only where it may.
+    fn closes_with(&self, internal: &[u8], value: &[u8]) -> bool
+        requires key { length internal.now ≤ 65543 }
+        requires value { length value.now ≤ 1048576 }
+        ensures { result ≡ nat_le 4096 (length (added_to_block self.now.block internal.now value.now).entries) }
+    {
+        let at_most = self.block.finished_size() + internal.len() + value.len() + BLOCK_ENTRY_BYTES;
+        at_most >= BLOCK_BYTES && self.block.size_with(internal, value) >= BLOCK_BYTES
+    }
+
     // Puts an entry at the end, and closes its block where it has grown large enough.
     fn put(&mut self, alloc: Global, internal: &[u8], value: &[u8]) -> Result<(), AllocError>
         requires key { length internal.now ≤ 65543 }
@@ -196,7 +245,7 @@ impl TableWriter {
         ensures ok { OnOk result (self.new ≡ with_data_block self.old (added_to_block self.old.block internal.now value.now)) }
         ensures err { OnErr result (self.new ≡ self.old) }
     {
-        if self.block.size_with(internal, value) >= BLOCK_BYTES {
+        if self.closes_with(internal, value) {
             return self.close_with(alloc, internal, value);
         }
         self.block.add(internal, value)?;

@@ -1,8 +1,18 @@
-use Rattle.std.proofs.Common.{◌+◌, sym, subst, arith}
+use Rattle.std.proofs.Common.{◌+◌, ◌<◌, length, sym, subst, ◌∙◌, arith}
+use Rattle.std.proofs.lemmas.Bool.{leb-false}
 use Rattle.st_block.specs.Written.{Writing, added as added_to_block}
 use Rattle.st_table.specs.Written.{IsWriter, Writer}
 use Rattle.st_table.proofs.Writing.{Fits, block_room, grows, open_keeps}
 use Rattle.st_table.proofs.writer.TableWriter.put.Goals as goal
+
+pub overflow_add-self : goal.overflow_add-self
+overflow_add-self c =
+    let i = c.self.inside in
+    let w : Writer = record { kind = i.kind; count = i.count; blocks = i.blocks; block = i.block; index = i.index } in
+    let small : length (added_to_block i.block c.args.internal.now c.args.value.now).entries < 4096 =
+    subst (λ (v : Writer). length (added_to_block v.block c.args.internal.now c.args.value.now).entries < 4096) (sym c.self.view_is)
+    (leb-false 4096 (length (added_to_block c.args.self.now.block c.args.internal.now c.args.value.now).entries) (sym c.closes_with.ensures ∙ c.if-closes_with.false)) in
+    omega (arith, small, grows i.block c.args.internal.now c.args.value.now, c.self.invariant.counted, c.self.invariant.blocks_short)
 
 pub add-requires-clause-room : goal.add-requires-clause-room
 add-requires-clause-room c =

@@ -7,7 +7,7 @@ use Rattle.st_table.specs.Footer.{greatest_size}
 use Rattle.st_table.specs.Written.{Writer, ending, finished_with}
 use Rattle.st_table.proofs.Sizes.{ending_short, handle_short}
 use Rattle.st_table.proofs.Writing.{grows, total_is}
-use Rattle.st_table.proofs.writer.TableWriter.has_room.Goals as goal
+use Rattle.st_table.proofs.writer.TableWriter.has_exact_room.Goals as goal
 
 pub finished_size_with-index_size-requires-clause-value : goal.finished_size_with-index_size-requires-clause-value
 finished_size_with-index_size-requires-clause-value c =
