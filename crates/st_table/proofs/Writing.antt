@@ -1,7 +1,7 @@
 -- What a writer of a table keeps.
-use Rattle.std.proofs.Common.{◌≡◌, ℕ, ◌+◌, ◌*◌, ◌^◌, ◌<◌, ◌≤◌, Bool, true, false, cond, eqb, leb, List, [], ◌++◌, length, take, refl, sym, ap, subst, ◌∙◌, arith}
+use Rattle.std.proofs.Common.{◌≡◌, ℕ, ◌+◌, ◌*◌, ◌^◌, ◌<◌, ◌≤◌, Bool, true, false, cond, eqb, List, [], ◌++◌, length, take, refl, sym, ap, subst, ◌∙◌, arith}
 use Rattle.std.specs.Prelude.{IsTrue, ◌↔◌}
-use Rattle.std.proofs.lemmas.Bool.{ne_eqb, leb-true, leb-false, false≢true}
+use Rattle.std.proofs.lemmas.Bool.{ne_eqb, false≢true}
 use Rattle.st_base.specs.declared.entry.Entry.{Entry}
 use Rattle.std.proofs.lemmas.List.{length-append}
 use Rattle.std.proofs.Math.Seq.{take-append_seam}
@@ -123,21 +123,13 @@ closed_is w block out next index o n i =
     ∙ ap (λ (x : Writing). let v : Writer = record { kind = w.kind; count = w.count + 1; blocks = w.blocks ++ stored (finished_block block); block = x; index = index } in v) n
     ∙ ap (λ (x : Writing). let v : Writer = record { kind = w.kind; count = w.count + 1; blocks = w.blocks ++ stored (finished_block block); block = no_entries 16; index = x } in v) i
 
--- what the test for room says of the table with the entry
-with_entry_is : (w : Writer) (e : Entry) (key value : List ℕ) → key ≡ internal_key e → value ≡ value_under e.mark
+-- the table with an entry, by its internal key and value
+pub with_entry_is : (w : Writer) (e : Entry) (key value : List ℕ) → key ≡ internal_key e → value ≡ value_under e.mark
     → length (finished_with w.kind (w.count + 1) w.blocks (added_to_block w.block key value) w.index) ≡ length (finished (added w e))
 with_entry_is w e key value k v =
     ap (λ (x : List ℕ). length (finished_with w.kind (w.count + 1) w.blocks (added_to_block w.block x value) w.index)) k
     ∙ ap (λ (x : List ℕ). length (finished_with w.kind (w.count + 1) w.blocks (added_to_block w.block (internal_key e) x) w.index)) v
     ∙ ap length (sym (finished_added w e))
-
-pub too_large_of : (w : Writer) (e : Entry) (key value : List ℕ) → key ≡ internal_key e → value ≡ value_under e.mark
-    → leb (length (finished_with w.kind (w.count + 1) w.blocks (added_to_block w.block key value) w.index)) (greatest_size w.kind) ≡ false → greatest_size w.kind < length (finished (added w e))
-too_large_of w e key value k v f = omega (arith, with_entry_is w e key value k v, leb-false _ _ f)
-
-pub fits_of : (w : Writer) (e : Entry) (key value : List ℕ) → key ≡ internal_key e → value ≡ value_under e.mark
-    → leb (length (finished_with w.kind (w.count + 1) w.blocks (added_to_block w.block key value) w.index)) (greatest_size w.kind) ≡ true → length (finished (added w e)) ≤ greatest_size w.kind
-fits_of w e key value k v t = omega (arith, with_entry_is w e key value k v, leb-true _ _ t)
 
 -- ---- the finished table
 

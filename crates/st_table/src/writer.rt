@@ -18,6 +18,7 @@ use st_block::BlockWriter;
 use st_code::push_fixed64;
 use std::alloc::{AllocError, Global};
 use std::marker::Model;
+use std::mem;
 
 /// A data block is closed after the entry with which its entries have so many bytes.
 const BLOCK_BYTES: usize = 4_096;
@@ -52,8 +53,8 @@ impl From<AllocError> for AddFault {
     }
 }
 
-// The internal key of the entry.
-fn internal_key(alloc: Global, entry: EntryRef<'_>) -> Result<Bytes, AllocError>
+// The internal key of the entry, in the room of these bytes.
+fn internal_key(room: Bytes, entry: EntryRef<'_>) -> Result<Bytes, AllocError>
     requires { entry.number < 2 ^ 56 }
     ensures { IfOk result (λ bytes. bytes ≡ internal_key (entry_of entry.entry)) }
 {
@@ -61,8 +62,8 @@ fn internal_key(alloc: Global, entry: EntryRef<'_>) -> Result<Bytes, AllocError>
         MarkRef::Put(_value) => 1,
         MarkRef::Gone => 0,
     };
-    let mut bytes = Bytes::new(alloc);
-    bytes.reserve(entry.key.len() + 8)?;
+    let mut bytes = room;
+    bytes.truncate(0);
     bytes.extend_from_slice(entry.key)?;
     push_fixed64(&mut bytes, entry.number * 256 + kind)?;
     Ok(bytes)
@@ -109,6 +110,8 @@ pub struct TableWriter {
     blocks: Bytes,
     block: BlockWriter,
     index: BlockWriter,
+    /// Room for an internal key.
+    room: Bytes,
 }
 
 impl Model for TableWriter {
@@ -135,6 +138,7 @@ impl TableWriter {
             blocks: Bytes::new(alloc),
             block,
             index,
+            room: Bytes::new(alloc),
         })
     }
 
@@ -253,6 +257,22 @@ impl TableWriter {
         Ok(())
     }
 
+    // Puts the entry of this internal key and value at the end, or leaves the writer as it was.
+    fn add_internal(&mut self, alloc: Global, internal: &[u8], value: &[u8]) -> Result<(), AddFault>
+        requires key { length internal.now ≤ 65543 }
+        requires value { length value.now ≤ 1048576 }
+        ensures ok { OnOk result (self.new ≡ with_data_block self.old (added_to_block self.old.block internal.now value.now)) }
+        ensures fits { OnOk result (length (finished_with self.old.kind (self.old.count + 1) self.old.blocks (added_to_block self.old.block internal.now value.now) self.old.index) ≤ greatest_size self.old.kind) }
+        ensures too_large { result ≡ Err AddFault.TooLarge → greatest_size self.old.kind < length (finished_with self.old.kind (self.old.count + 1) self.old.blocks (added_to_block self.old.block internal.now value.now) self.old.index) }
+        ensures err { OnErr result (self.new ≡ self.old) }
+    {
+        if !self.has_room(alloc, internal, value)? {
+            return Err(AddFault::TooLarge);
+        }
+        self.put(alloc, internal, value)?;
+        Ok(())
+    }
+
     /// Puts an entry at the end; an error leaves the writer as it was. `TooLarge` comes exactly where the finished table
     /// would pass the limit of its kind, unless memory runs out before. The work is that of the entry, and of its block
     /// where that is closed.
@@ -265,13 +285,11 @@ impl TableWriter {
         ensures too_large { result ≡ Err AddFault.TooLarge → greatest_size self.old.kind < length (finished (added self.old (entry_of entry.entry))) }
         ensures err { OnErr result (self.new ≡ self.old) }
     {
-        let internal = internal_key(alloc, entry)?;
-        let value = value_under(entry.mark);
-        if !self.has_room(alloc, internal.as_slice(), value)? {
-            return Err(AddFault::TooLarge);
-        }
-        self.put(alloc, internal.as_slice(), value)?;
-        Ok(())
+        let room = mem::replace(&mut self.room, Bytes::new(alloc));
+        let internal = internal_key(room, entry)?;
+        let added = self.add_internal(alloc, internal.as_slice(), value_under(entry.mark));
+        self.room = internal;
+        added
     }
 
     // The table of what was added.
