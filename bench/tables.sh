@@ -16,8 +16,10 @@ command -v python3 >/dev/null || { echo "tables: skipped, no python3"; exit 0; }
 folder="$(mktemp -d)" || exit 1
 trap 'rm -rf "$folder"' EXIT
 theirs=()
-if command -v g++ >/dev/null && g++ -std=c++17 -O2 -o "$folder/tables" ../interop/rocksdb_tables.cc -lrocksdb 2>/dev/null; then
-  theirs=(-- text - ./tables build theirs.sst -- - theirs ./tables show theirs.sst)
+tables="$here/out/rocksdb_tables"
+mkdir -p out
+if command -v g++ >/dev/null && g++ -std=c++17 -O2 -o "$tables" rocksdb_tables.cc -lrocksdb 2>/dev/null; then
+  theirs=(-- text - "$tables" build theirs.sst -- - theirs "$tables" show theirs.sst)
 fi
 cd "$folder" || exit 1
 quotient() { python3 -c "print('%.2f' % ($1 / $2))"; }

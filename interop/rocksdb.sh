@@ -18,7 +18,7 @@ echo '#include <rocksdb/db.h>' | g++ -std=c++17 -fsyntax-only -x c++ - 2>/dev/nu
 [ -x "$program" ] || { echo "rocksdb: no program $program"; exit 1; }
 folder="$(mktemp -d)" || exit 1
 trap 'rm -rf "$folder"' EXIT
-g++ -std=c++17 -O1 -o "$folder/tables" rocksdb_tables.cc -lrocksdb || exit 1
+g++ -std=c++17 -O1 -o "$folder/tables" ../bench/rocksdb_tables.cc -lrocksdb || exit 1
 python3 texts.py "$folder" || exit 1
 cd "$folder" || exit 1
 failed=0
