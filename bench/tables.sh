@@ -8,10 +8,10 @@
 cd "$(dirname "$0")" || exit 1
 here="$PWD"
 entries="${1:-1000000}"
-program="${2:-$here/../crates/ingest_app/out/ingest_app}"
+program="${2:-$here/../crates/tipekohu/out/tipekohu}"
 command -v python3 >/dev/null || { echo "tables: skipped, no python3"; exit 0; }
 # the gate leaves the program that it built; without it, it is proved and built here
-[ -x "$program" ] || (cd ../crates/ingest_app && rt run >/dev/null 2>&1)
+[ -x "$program" ] || (cd ../crates/tipekohu && rt run >/dev/null 2>&1)
 [ -x "$program" ] || { echo "tables: no program $program"; exit 1; }
 folder="$(mktemp -d)" || exit 1
 trap 'rm -rf "$folder"' EXIT

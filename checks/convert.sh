@@ -1,8 +1,8 @@
 #!/usr/bin/env bash
 # Converts build texts and tables with the program that the gate built: standard input to standard output, and the status
 # with which it ends. The rows and the bytes are those of docs/COMMANDS.md and docs/FORMATS.md.
-cd "$(dirname "$0")/../crates/ingest_app" || exit 1
-program="$PWD/out/ingest_app"
+cd "$(dirname "$0")/../crates/tipekohu" || exit 1
+program="$PWD/out/tipekohu"
 # without it, it is proved and built here
 [ -x "$program" ] || rt run >/dev/null 2>&1
 folder="$(mktemp -d)" || exit 1

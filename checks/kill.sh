@@ -1,10 +1,10 @@
 #!/usr/bin/env bash
 # Ends the program by kill -9 at twenty moments while it makes 2,000 writes in a folder. After each the next opening must
 # find exactly the first p writes, for a p that never falls; at the end a further run makes the rest in the same folder.
-cd "$(dirname "$0")/../crates/ingest_app" || exit 1
+cd "$(dirname "$0")/../crates/tipekohu" || exit 1
 batches=2000
 kills=20
-built="$PWD/out/ingest_app"
+built="$PWD/out/tipekohu"
 # the gate leaves the program that it built; without it, it is proved and built here
 if [ ! -x "$built" ]; then
   rt run >/tmp/tipekohu-kill.$$ 2>&1

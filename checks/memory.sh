@@ -3,8 +3,8 @@
 # status 3 and writes nothing, and the first one without a refusal ends with 0. It needs gcc and the C library's malloc, and
 # isn't part of the gate.
 cd "$(dirname "$0")" || exit 1
-program="$PWD/../crates/ingest_app/out/ingest_app"
-[ -x "$program" ] || (cd ../crates/ingest_app && rt run >/dev/null 2>&1)
+program="$PWD/../crates/tipekohu/out/tipekohu"
+[ -x "$program" ] || (cd ../crates/tipekohu && rt run >/dev/null 2>&1)
 command -v gcc >/dev/null || { echo "memory: skipped, no gcc"; exit 0; }
 folder="$(mktemp -d)" || exit 1
 trap 'rm -rf "$folder"' EXIT

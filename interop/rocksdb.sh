@@ -8,13 +8,13 @@
 # PROGRAM names another program to be compared.
 cd "$(dirname "$0")" || exit 1
 here="$PWD"
-program="${PROGRAM:-$here/../crates/ingest_app/out/ingest_app}"
+program="${PROGRAM:-$here/../crates/tipekohu/out/tipekohu}"
 for tool in g++ python3; do
   command -v "$tool" >/dev/null || { echo "rocksdb: skipped, no $tool"; exit 0; }
 done
 echo '#include <rocksdb/db.h>' | g++ -std=c++17 -fsyntax-only -x c++ - 2>/dev/null || { echo "rocksdb: skipped, no RocksDB"; exit 0; }
 # the gate leaves the program that it built; without it, it is proved and built here
-[ -x "$program" ] || (cd ../crates/ingest_app && rt run >/dev/null 2>&1)
+[ -x "$program" ] || (cd ../crates/tipekohu && rt run >/dev/null 2>&1)
 [ -x "$program" ] || { echo "rocksdb: no program $program"; exit 1; }
 folder="$(mktemp -d)" || exit 1
 trap 'rm -rf "$folder"' EXIT

@@ -13,7 +13,7 @@ use st_base::MakeFault;
 use std::alloc::AllocError;
 
 /// Why a text is no client file.
-#[derive(Clone, Copy, Debug, PartialEq, Eq, Drop)]
+#[derive(Debug, Drop)]
 pub enum ScriptFault {
     /// The number of the first line that isn't a command; lines are counted from 1.
     Line(u32),
@@ -21,7 +21,7 @@ pub enum ScriptFault {
 }
 
 /// Why a line isn't read as a reply.
-#[derive(Clone, Copy, Debug, PartialEq, Eq, Drop)]
+#[derive(Debug, Drop)]
 pub enum LineFault {
     /// No place and reply print as the line.
     NotAReply,
@@ -29,7 +29,7 @@ pub enum LineFault {
 }
 
 /// Why a text is no build text: its first fault. Lines are counted from 1.
-#[derive(Clone, Copy, Debug, PartialEq, Eq, Drop)]
+#[derive(Debug, Drop)]
 pub enum BuildFault {
     /// The line is neither `put K V` nor `del K`, or no line feed ends it.
     Line { line: u32 },
@@ -43,7 +43,7 @@ pub enum BuildFault {
 }
 
 /// Why a line of a build text stands for no entry.
-#[derive(Clone, Copy, Debug, PartialEq, Eq, Drop)]
+#[derive(Debug, Drop)]
 pub enum BuildLineFault {
     /// It is neither `put K V` nor `del K`.
     Line,
@@ -53,7 +53,7 @@ pub enum BuildLineFault {
 }
 
 // Why a word isn't read as bytes.
-#[derive(Clone, Copy, Debug, PartialEq, Eq, Drop)]
+#[derive(Drop)]
 pub(crate) enum WordFault {
     // It is no spelling.
     NotAWord,
@@ -63,7 +63,7 @@ pub(crate) enum WordFault {
 }
 
 // Why words aren't read as a command.
-#[derive(Clone, Copy, Debug, PartialEq, Eq, Drop)]
+#[derive(Drop)]
 pub(crate) enum CommandFault {
     // They are no command, or not that part of one.
     NotACommand,

@@ -25,8 +25,3 @@ pub use laws::{build_text_is_read, word_is_read};
 pub use print::{print_reply, push_reply};
 pub use replies::read_reply;
 pub use script::{Numbered, Script, read_script};
-
-#[cfg(test)]
-mod build_tests;
-#[cfg(test)]
-mod tests;

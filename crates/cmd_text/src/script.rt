@@ -9,14 +9,14 @@ use st_model::Command;
 use std::alloc::Global;
 
 /// A command with the number of its line; all lines of a client file are counted, from 1.
-#[derive(Debug, Drop, PartialEq, Eq, Clone)]
+#[derive(Drop)]
 pub struct Numbered {
     pub line: u32,
     pub command: Command,
 }
 
 /// The commands of a client file, in order.
-#[derive(Debug, Drop, PartialEq, Eq, Clone)]
+#[derive(Drop)]
 pub struct Script {
     pub commands: List<Numbered>,
 }

@@ -15,7 +15,7 @@ use Rattle.cmd_text.specs.declared.fault.BuildFault.{BuildFault}
 use Rattle.cmd_text.specs.declared.fault.BuildFault.TheVariants.{TooLarge, NotRising}
 use Rattle.cmd_text.specs.Build.{IsBuildEntry, and_then, at_end, build_of, build_text, entries_from, entry_of_line, is_above, is_within, some_entries, text_parts, with_build_line, with_found}
 use Rattle.ingest_app.specs.Convert.{EndsBytes, IsBuilt, IsShown, fit_table}
-use Rattle.ingest_app.specs.declared.convert.Conversion.TheVariants.{Show}
+use Rattle.ingest_app.specs.declared.conversions.Conversion.TheVariants.{Show}
 use Rattle.ingest_app.specs.declared.status.Status.{Status}
 use Rattle.ingest_app.specs.declared.status.Status.TheVariants.{Done, Refused, Memory, InputFault, DiskFault, SinkFault, Script, Damaged, NotYet}
 

@@ -14,8 +14,8 @@ use Rattle.st_table.specs.Table.{first_fault, table_of}
 use Rattle.st_table.specs.declared.kind.TableKind.TheVariants.{External}
 use Rattle.ingest_app.specs.Convert.{Converted, EndsBytes, EndsNoForm, EndsSource, IsConvertible, IsOfBytes, IsUnconvertible, refused_text, source_limit}
 use Rattle.ingest_app.specs.Run.{EndsWriting, Writes, not_yet_text}
-use Rattle.ingest_app.specs.declared.convert.Conversion.{Conversion}
-use Rattle.ingest_app.specs.declared.convert.Conversion.TheVariants.{Build, Show}
+use Rattle.ingest_app.specs.declared.conversions.Conversion.{Conversion}
+use Rattle.ingest_app.specs.declared.conversions.Conversion.TheVariants.{Build, Show}
 use Rattle.ingest_app.specs.declared.status.Status.{Status}
 use Rattle.ingest_app.specs.declared.status.Status.TheVariants.{Done, Refused, Memory, InputFault, DiskFault, SinkFault, Script, Damaged, NotYet}
 

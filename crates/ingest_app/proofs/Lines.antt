@@ -19,7 +19,7 @@ use Rattle.cmd_text.specs.declared.fault.BuildFault.TheVariants as build
 use Rattle.cmd_text.specs.Build.{GivesMore, build_of, entries_from, is_above, is_within, some_entries, text_parts, unnumbered, with_build_line, with_entry}
 use Rattle.cmd_text.proofs.Building.{build_end, build_line_fault, build_cut, entry_added, entry_not_fitting, entry_not_rising}
 use Rattle.ingest_app.specs.Convert.{EndsBytes, GivesTable, GivesWriter, build_cause, fault_at, fit_table, refused_text, source_limit, unfinished}
-use Rattle.ingest_app.specs.declared.convert.Conversion.TheVariants.{Build}
+use Rattle.ingest_app.specs.declared.conversions.Conversion.TheVariants.{Build}
 use Rattle.ingest_app.specs.declared.status.Status.{Status}
 use Rattle.ingest_app.specs.declared.status.Status.TheVariants.{Refused}
 

@@ -22,8 +22,8 @@ use Rattle.cmd_text.specs.Build.{build_of, build_text, some_entries}
 use Rattle.cmd_text.specs.declared.fault.BuildFault.{BuildFault}
 use Rattle.cmd_text.specs.declared.fault.BuildFault.TheVariants as build
 use Rattle.ingest_app.specs.Run.{EndsWriting, not_yet_text}
-use Rattle.ingest_app.specs.declared.convert.Conversion.{Conversion}
-use Rattle.ingest_app.specs.declared.convert.Conversion.TheVariants.{Build, Show}
+use Rattle.ingest_app.specs.declared.conversions.Conversion.{Conversion}
+use Rattle.ingest_app.specs.declared.conversions.Conversion.TheVariants.{Build, Show}
 use Rattle.ingest_app.specs.declared.status.Status.{Status}
 use Rattle.ingest_app.specs.declared.status.Status.TheVariants.{Done, Refused, Memory, InputFault, NotYet}
 

@@ -5,7 +5,7 @@ ghost use Rattle.st_base.specs.declared.entry.Mark.TheVariants.{Put, Gone};
 ghost use Rattle.cmd_text.specs.Build.{GivesMore, build_of, is_within, some_entries, unnumbered, with_build_line, with_entry};
 ghost use Rattle.ingest_app.specs.Convert.{EndsBytes, GivesTable, GivesWriter, build_cause, fault_at, fit_table, unfinished};
 
-use crate::convert::{Conversion, refused};
+use crate::conversions::{Conversion, refused};
 use crate::outcome::Outcome;
 use crate::status::Status;
 use cmd_text::{BuildFault, BuildLineFault, next_build_line, read_build_line};

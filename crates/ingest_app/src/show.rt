@@ -4,7 +4,7 @@ ghost use Rattle.st_base.specs.Faults.{printed_table_fault};
 ghost use Rattle.cmd_text.specs.Build.{build_text};
 ghost use Rattle.ingest_app.specs.Convert.{EndsBytes};
 
-use crate::convert::{Conversion, refused};
+use crate::conversions::{Conversion, refused};
 use crate::outcome::Outcome;
 use crate::status::Status;
 use cmd_text::push_build_line;

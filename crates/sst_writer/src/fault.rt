@@ -4,7 +4,7 @@ ghost use Rattle.sst_writer.specs.Sst.{writer_fault};
 use st_table::AddFault;
 
 /// Why an entry isn't added to a table.
-#[derive(Clone, Copy, Debug, PartialEq, Eq, Drop)]
+#[derive(Drop, PartialEq)]
 pub enum WriterFault {
     /// The key isn't greater than the last one.
     NotRising,
@@ -14,7 +14,7 @@ pub enum WriterFault {
 }
 
 /// Why a table isn't finished.
-#[derive(Clone, Copy, Debug, PartialEq, Eq, Drop)]
+#[derive(Drop)]
 pub enum FinishFault {
     /// Nothing was added.
     NoEntry,

@@ -6,8 +6,6 @@
 #![tactic(auto)]
 
 mod fault;
-#[cfg(test)]
-mod tests;
 mod writer;
 
 pub use fault::{FinishFault, WriterFault};

@@ -9,7 +9,7 @@ use std::sync::Arc;
 use std::sync::ledger::{Blank, Ledger};
 
 /// An entry of a block, where it lies. Its key stands in the scratch that it was read with.
-#[derive(Clone, Copy, Debug)]
+#[derive(Drop)]
 pub struct BlockEntry<'a> {
     /// Its value.
     pub value: &'a [u8],

@@ -1,5 +1,5 @@
 /// Which block of a table it is: what its keys are, and how they are ordered.
-#[derive(Clone, Copy, Debug, PartialEq, Eq, Drop)]
+#[derive(Clone, Copy)]
 pub enum BlockKind {
     /// Entries of the table under internal keys. Their order is not looked at when the block is opened.
     Data,

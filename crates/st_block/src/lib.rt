@@ -19,8 +19,6 @@ mod kind;
 mod laws;
 mod open;
 mod tail;
-#[cfg(test)]
-mod tests;
 mod walk;
 mod writer;
 

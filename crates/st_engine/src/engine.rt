@@ -24,7 +24,7 @@ use st_wal::{LogRecord, Operation, Wal};
 use std::alloc::Global;
 
 /// How a store is opened.
-#[derive(Clone, Copy, Debug, Drop, PartialEq, Eq)]
+#[derive(Clone, Copy, Drop, PartialEq, Eq)]
 pub struct Options {
     /// Whether the store takes files in behind; such a store keeps tombstones in its contents.
     pub behind: bool,
@@ -33,7 +33,7 @@ pub struct Options {
 }
 
 /// What an accepted write took: its place, and its first and last sequence number.
-#[derive(Clone, Copy, Debug, Drop, PartialEq, Eq)]
+#[derive(Clone, Copy, Drop, PartialEq, Eq)]
 pub struct Wrote {
     pub place: u64,
     pub first: u64,

@@ -10,8 +10,6 @@ mod engine;
 mod newest;
 mod ops;
 mod store;
-#[cfg(test)]
-mod tests;
 
 pub use engine::{Engine, Options, Wrote};
 pub use st_recover::OpenFault;

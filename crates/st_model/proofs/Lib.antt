@@ -1,6 +1,3 @@
-pub mod AnsweredAlong
 pub mod Grow
 pub mod Places
 pub mod ReadAfter
-pub mod WriteAnswers
-pub mod Ranges

@@ -1,6 +1,5 @@
 -- The state after a change.
-use Rattle.std.specs.Prelude.{ℕ, Bool, ◌+◌, ◌<◌, ◌^◌, IsTrue, length, List, [], ◌∷◌, ◌++◌, sum_by}
-use Rattle.std.specs.List.{list_all}
+use Rattle.std.specs.Prelude.{ℕ, ◌+◌, length, List, [], ◌∷◌, ◌++◌, sum_by}
 use Rattle.st_base.specs.Entries.{entry_charge, add_charge}
 use Rattle.st_base.specs.Map.{changed_at}
 use Rattle.st_base.specs.declared.entry.Mark.{Mark}
@@ -12,7 +11,6 @@ use Rattle.st_model.specs.declared.change.Change.{Change}
 use Rattle.st_model.specs.declared.change.Change.TheVariants.{Write}
 use Rattle.st_model.specs.declared.state.ModelFamily.{ModelFamily}
 use Rattle.st_model.specs.declared.state.ModelState.{ModelState}
-use Rattle.st_model.specs.State.{has_family}
 
 -- ---- one operation of a write
 
@@ -54,15 +52,3 @@ apply state (Write batch) = record state {
   charge = add_charge state.charge (write_charge batch.ops);
   families = with_ops state.last batch.ops state.families;
 }
-
--- ---- when a change can be applied
-
--- the families that it names are there
-abbrev pub names_rightly : ModelState → Change → Bool
-names_rightly state (Write batch) = list_all (λ op. has_family state (op_family op)) batch.ops
-
--- what `apply` asks of its caller
-pub record IsApplicable (state : ModelState) (change : Change) : Type 0 where
-  pub names : IsTrue (names_rightly state change)
-  pub place : (apply state change).place < 2 ^ 64
-  pub last : (apply state change).last < 2 ^ 64

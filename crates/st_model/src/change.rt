@@ -1,7 +1,7 @@
 use st_base::{Family, Key, List, Value};
 
 /// One operation of a write.
-#[derive(Debug, Drop, PartialEq, Eq, Clone)]
+#[derive(Drop, Clone)]
 pub enum Op {
     /// Sets the family's key to the value.
     Put(Family, Key, Value),
@@ -10,13 +10,13 @@ pub enum Op {
 }
 
 /// The operations of one write, in order.
-#[derive(Debug, Drop, PartialEq, Eq, Clone)]
+#[derive(Drop, Clone)]
 pub struct Batch {
     pub ops: List<Op>,
 }
 
 /// What an accepted call changes.
-#[derive(Debug, Drop, PartialEq, Eq, Clone)]
+#[derive(Drop)]
 pub enum Change {
     /// The operations take the next sequence numbers, in order.
     Write(Batch),

@@ -4,7 +4,7 @@ use crate::state::Snapshot;
 use st_base::{Entries, Family, Key, List};
 
 /// A command of a client file.
-#[derive(Debug, Drop, PartialEq, Eq, Clone)]
+#[derive(Drop, Clone)]
 pub enum Command {
     /// The operations are one write.
     Write(Batch),
@@ -13,7 +13,7 @@ pub enum Command {
 }
 
 /// What the inputs hold under a name that a command gives.
-#[derive(Debug, Drop, PartialEq, Eq, Clone)]
+#[derive(Drop, Clone)]
 pub enum FileSeen {
     /// No file has the name.
     Missing,
@@ -22,7 +22,7 @@ pub enum FileSeen {
 }
 
 /// A command with what it names: the files as they are seen, in order, and the snapshot.
-#[derive(Debug, Drop, PartialEq, Eq, Clone)]
+#[derive(Drop, Clone)]
 pub struct Asked {
     pub command: Command,
     pub files: List<FileSeen>,
@@ -30,7 +30,7 @@ pub struct Asked {
 }
 
 /// A command with its answer: the place that is printed, and the reply.
-#[derive(Debug, Drop, PartialEq, Eq, Clone)]
+#[derive(Drop, Clone)]
 pub struct Call {
     pub asked: Asked,
     pub place: u64,

@@ -1,14 +1,13 @@
 //! The list model: what a store of column families is, what each command may be answered, and which transcripts of
 //! its clients are legal.
 //!
-//! The definitions in `specs/` are the meaning of the whole program: the top call's contract names them. Beside each
-//! stands a plain, slow function that computes it.
+//! The definitions in `specs/` are the meaning of the whole program: the top call's contract names them. In
+//! `plain_model` stands beside each a plain, slow function that computes it.
 #![tactic(auto)]
 
 mod change;
 mod command;
 mod contents;
-pub mod plain;
 mod refusal;
 mod reply;
 mod state;

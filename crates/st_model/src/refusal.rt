@@ -5,7 +5,7 @@ use st_base::Family;
 use std::alloc::AllocError;
 
 /// Why a command is refused. Each refusal but the last has a number and a name, which a transcript prints.
-#[derive(Debug, Drop, PartialEq, Eq, Clone)]
+#[derive(Drop, PartialEq, Clone)]
 pub enum Refusal {
     /// 10: a disk fault stopped the store before.
     Stopped,

@@ -2,7 +2,7 @@ use crate::refusal::Refusal;
 use st_base::Value;
 
 /// What a command is answered.
-#[derive(Debug, Drop, PartialEq, Eq, Clone)]
+#[derive(Drop, PartialEq, Clone)]
 pub enum Reply {
     /// A write is accepted, and this is the last sequence number that it took.
     Written(u64),

@@ -6,7 +6,7 @@ use st_gate::ReplayFault;
 use std::alloc::AllocError;
 
 /// Why a store isn't opened.
-#[derive(Clone, Copy, Debug, Drop, PartialEq, Eq)]
+#[derive(Drop)]
 pub enum OpenFault {
     /// The disk has a store that is damaged: a file, and the place of its first damage in bytes. In the log it is the
     /// place of a record's gate, or 0 where the file isn't there or isn't a log.

@@ -10,8 +10,6 @@ mod fault;
 mod make;
 mod recovery;
 mod settle;
-#[cfg(test)]
-mod tests;
 
 pub use fault::OpenFault;
 pub use recovery::recover;

@@ -11,7 +11,7 @@ use crate::{Failed, Inputs};
 use st_base::{Bytes, List, Name};
 
 /// A file in memory.
-#[derive(Debug, Drop)]
+#[derive(Drop)]
 pub struct InputFile {
     pub name: Name,
     pub bytes: Bytes,
@@ -19,7 +19,7 @@ pub struct InputFile {
 
 /// Input files in memory, whose bytes are known. They fail at the calls that are listed, and at no others, and take no
 /// memory. A read gives all that is there and fits.
-#[derive(Debug, Drop)]
+#[derive(Drop)]
 pub struct MemInputs {
     files: List<InputFile>,
     schedule: Schedule,

@@ -10,7 +10,7 @@ use std::alloc::Global;
 
 /// A sink that keeps what is written. It fails at the calls that are listed, and else only where a second count,
 /// `starved`, rises together with the count of faults: where memory refuses a growth.
-#[derive(Debug, Drop)]
+#[derive(Drop)]
 pub struct MemSink {
     written: Bytes,
     schedule: Schedule,

@@ -9,7 +9,7 @@ use st_base::{Bytes, List};
 
 /// A source of bytes in memory, which are known. It fails at the calls that are listed, and at no others, and takes no
 /// memory. A read gives all that is left and fits.
-#[derive(Debug, Drop)]
+#[derive(Drop)]
 pub struct MemSource {
     bytes: Bytes,
     given: usize,

@@ -13,7 +13,7 @@ use std::alloc::{AllocError, Global};
 pub const PIECE_BYTES: usize = 65_536;
 
 /// What was read of a file.
-#[derive(Debug, Drop, PartialEq, Eq)]
+#[derive(Drop)]
 pub enum FileRead {
     /// There is no such file.
     Missing,
@@ -24,7 +24,7 @@ pub enum FileRead {
 }
 
 /// Why a file or a source wasn't read.
-#[derive(Clone, Copy, Debug, Drop, PartialEq, Eq)]
+#[derive(Debug, Drop)]
 pub enum ReadFault {
     /// The inputs or the source have failed.
     Failed,

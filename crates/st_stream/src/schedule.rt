@@ -5,7 +5,7 @@ ghost use Rattle.st_stream.specs.Schedule.{fails_next, is_listed, CountsCall};
 use st_base::List;
 
 /// The calls of an object in memory that are to fail, by number, counted from 1, and how many calls have come.
-#[derive(Debug, Drop)]
+#[derive(Drop)]
 pub struct Schedule {
     pub calls: u64,
     pub failing: List<u64>,

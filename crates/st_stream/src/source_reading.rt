@@ -9,7 +9,7 @@ use st_base::Bytes;
 use std::alloc::Global;
 
 /// What was read of a source.
-#[derive(Debug, Drop, PartialEq, Eq)]
+#[derive(Drop)]
 pub enum SourceRead {
     /// More bytes came than were allowed.
     TooLong,

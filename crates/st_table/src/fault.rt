@@ -5,7 +5,7 @@ use st_base::TableFault;
 use std::alloc::AllocError;
 
 /// Why a table isn't opened.
-#[derive(Clone, Copy, Debug, PartialEq, Eq, Drop)]
+#[derive(Drop)]
 pub enum OpenTableFault {
     /// The bytes are no table of the kind: their first fault.
     Bad(TableFault),

@@ -1,5 +1,5 @@
 /// Which rules a table obeys.
-#[derive(Clone, Copy, Debug, PartialEq, Eq, Drop)]
+#[derive(Clone, Copy, PartialEq)]
 pub enum TableKind {
     /// A table that was made outside a store, to be ingested: at most 67,108,864 bytes, keys that rise strictly, and the
     /// sequence number 0 throughout.

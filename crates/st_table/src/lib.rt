@@ -28,13 +28,9 @@ mod kind;
 mod laws;
 mod metaindex;
 mod properties;
-#[cfg(test)]
-mod rocksdb_tests;
 mod stored;
 mod stored_bytes;
 mod table;
-#[cfg(test)]
-mod tests;
 mod writer;
 
 pub use fault::OpenTableFault;

@@ -38,7 +38,7 @@ const BLOCK_ENTRY_BYTES: usize = 42;
 const ENTRY_BYTES: usize = 114;
 
 /// Why an entry isn't added to a table.
-#[derive(Clone, Copy, Debug, PartialEq, Eq, Drop)]
+#[derive(Drop)]
 pub enum AddFault {
     /// The finished table would have more bytes than its kind may have.
     TooLarge,

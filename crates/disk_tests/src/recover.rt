@@ -1,0 +1,102 @@
+// Recovery.
+use crate::disks::{FATES, left_by};
+use crate::puts::{append_both, one_put};
+use st_device::{Disk, MemDisk};
+use st_recover::{OpenFault, recover};
+use st_wal::LogRecord;
+use std::alloc::Global;
+use std::test::Fail;
+
+// Whether the disk opens to so many operations, or is damaged at this place of the log.
+fn opens_as<D: Disk>(alloc: Global, disk: &mut D, want: Result<usize, u64>) -> bool {
+    match recover(alloc, disk) {
+        Ok((operations, _)) => want == Ok(operations.len()),
+        Err(OpenFault::Damaged { file, at }) => file == 3 && want == Err(at),
+        Err(_) => false,
+    }
+}
+
+// Opens the store of a disk, or makes it, and writes the records: whether both were answered Ok.
+fn write_both<D: Disk>(alloc: Global, disk: &mut D, one: &LogRecord, two: &LogRecord) -> bool {
+    match recover(alloc, disk) {
+        Ok((_, mut wal)) => append_both(disk, &mut wal, one, two) == 2,
+        Err(_) => false,
+    }
+}
+
+// The numbers of two operations, the family of the second, and how many operations a store of them opens to, or the
+// place of its damage.
+const OPENED: [(u64, u64, u32, Result<usize, u64>); 6] = [
+    (1, 2, 0, Ok(2)),
+    (5, 9, 0, Ok(2)),
+    (1, 1, 0, Err(38)),
+    (2, 1, 0, Err(38)),
+    (1, 2, 1, Err(38)),
+    (0, 1, 0, Err(8)),
+];
+
+// Whether a new store with these records opens so.
+fn written_opens_as(
+    alloc: Global,
+    one: &LogRecord,
+    two: &LogRecord,
+    want: Result<usize, u64>,
+) -> bool {
+    let mut disk = MemDisk::new(alloc, Vec::new(alloc));
+    write_both(alloc, &mut disk, one, two) && opens_as(alloc, &mut disk, want)
+}
+
+#[test]
+fn operations_are_opened_again(rt: HostRuntime) -> Result<(), Fail> {
+    let alloc = rt.alloc();
+    for &(first, second, family, want) in &OPENED {
+        let one = one_put(alloc, first, 0, b"a", b"1")?;
+        let two = one_put(alloc, second, family, b"a", b"1")?;
+        assert!(rt;
+            written_opens_as(alloc, &one, &two, want),
+            "{first} {second} {family}"
+        );
+    }
+    Ok(())
+}
+
+#[test]
+fn a_mark_without_a_log_is_damaged(rt: HostRuntime) -> Result<(), Fail> {
+    let alloc = rt.alloc();
+    let mut disk = MemDisk::new(alloc, Vec::new(alloc));
+    disk.create(1)?;
+    assert!(rt; opens_as(alloc, &mut disk, Err(0)));
+    Ok(())
+}
+
+// Whether the store is opened or made, unless the disk fails.
+fn opens_or_fails<D: Disk>(alloc: Global, disk: &mut D) -> bool {
+    match recover(alloc, disk) {
+        Ok(_) => true,
+        Err(OpenFault::DiskFault) => true,
+        Err(_) => false,
+    }
+}
+
+// Whether a crash of a disk that fails at this call of an opening leaves a new store.
+fn each_crash_leaves_new_store(alloc: Global, failing: u64) -> Result<bool, Fail> {
+    let mut disk = MemDisk::new(alloc, vec![in alloc; failing]?);
+    let mut each = opens_or_fails(alloc, &mut disk);
+    for fate in &FATES {
+        each = opens_as(alloc, &mut left_by(alloc, &disk, *fate)?, Ok(0)) && each;
+    }
+    Ok(each)
+}
+
+// Each device call of an opening fails in turn, and a crash then leaves a new store.
+#[test]
+fn a_crash_within_an_opening_leaves_a_new_store(rt: HostRuntime) -> Result<(), Fail> {
+    let alloc = rt.alloc();
+    for failing in 1..=12u64 {
+        assert!(rt;
+            each_crash_leaves_new_store(alloc, failing)?,
+            "call {failing}"
+        );
+    }
+    Ok(())
+}

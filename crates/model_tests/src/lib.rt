@@ -1,0 +1,13 @@
+//! Tests of the words, the model, its slow functions, the texts and the streams, by their public items.
+#![tactic(auto)]
+
+#[cfg(test)]
+mod base;
+#[cfg(test)]
+mod builds;
+#[cfg(test)]
+mod plain;
+#[cfg(test)]
+mod streams;
+#[cfg(test)]
+mod texts;

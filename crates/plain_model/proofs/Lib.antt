@@ -1,0 +1,3 @@
+pub mod AnsweredAlong
+pub mod WriteAnswers
+pub mod Ranges

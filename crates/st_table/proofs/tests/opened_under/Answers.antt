@@ -1,5 +1,0 @@
-use Rattle.std.proofs.Common.{inr}
-use Rattle.st_table.proofs.tests.opened_under.Goals as goal
-
-pub open-requires : goal.open-requires
-open-requires c = inr (λ entries t. c.table_or_first_fault.ensures.external _ entries t)

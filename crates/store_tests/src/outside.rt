@@ -1,0 +1,118 @@
+// What a run is given, in memory.
+use ingest_app::{Status, convert, run};
+use st_base::{Bytes, List, Name};
+use st_device::MemDisk;
+use st_stream::{InputFile, MemInputs, MemSink, MemSource};
+use std::alloc::{AllocError, Global};
+use std::process::Abort;
+use std::test::Fail;
+
+/// Which calls fail: the number of one call of each, counted from 1, or 0 for none.
+#[derive(Clone, Copy)]
+pub struct Failing {
+    pub input: u64,
+    pub source: u64,
+    pub sink: u64,
+}
+
+/// No call fails.
+pub const NONE: Failing = Failing {
+    input: 0,
+    source: 0,
+    sink: 0,
+};
+
+/// A command line, one client file, a source and a sink.
+#[derive(Drop)]
+pub struct Outside {
+    words: Vec<String>,
+    inputs: MemInputs,
+    source: MemSource,
+    sink: MemSink,
+}
+
+// The words of a command line.
+fn words(alloc: Global, line: &str) -> Result<Vec<String>, AllocError> {
+    let mut words = Vec::new(alloc);
+    for word in line.split(' ') {
+        words.push(word.to_string(alloc)?)?;
+    }
+    Ok(words)
+}
+
+// One input file, called `one`.
+fn inputs(alloc: Global, text: &str, failing: u64) -> Result<MemInputs, Fail> {
+    let name = Name::new(alloc, b"one")?;
+    let bytes = Bytes::from_slice(alloc, text.as_bytes())?;
+    let mut files = List::new(alloc);
+    files.push(InputFile { name, bytes })?;
+    Ok(MemInputs::new(files, List::from_slice(alloc, &[failing])?))
+}
+
+// A source of these bytes.
+fn source(alloc: Global, bytes: &[u8], failing: u64) -> Result<MemSource, AllocError> {
+    let failing = List::from_slice(alloc, &[failing])?;
+    Ok(MemSource::new(Bytes::from_slice(alloc, bytes)?, failing))
+}
+
+/// A command line over a client file `one` of this text and a source of these bytes.
+pub fn make_outside(
+    alloc: Global,
+    line: &str,
+    text: &str,
+    bytes: &[u8],
+    failing: Failing,
+) -> Result<Outside, Fail> {
+    let words = words(alloc, line)?;
+    let source = source(alloc, bytes, failing.source)?;
+    let inputs = inputs(alloc, text, failing.input)?;
+    let failing = List::from_slice(alloc, &[failing.sink])?;
+    Ok(Outside {
+        words,
+        inputs,
+        source,
+        sink: MemSink::new(alloc, failing),
+    })
+}
+
+impl Outside {
+    /// Runs the words over a disk.
+    pub fn run(&mut self, alloc: Global, disk: MemDisk) -> (Status, MemDisk) {
+        run(
+            alloc,
+            self.words.as_slice(),
+            disk,
+            &mut self.inputs,
+            &mut self.source,
+            &mut self.sink,
+        )
+    }
+
+    /// Converts the source.
+    pub fn convert(&mut self, alloc: Global) -> Status {
+        convert(
+            alloc,
+            self.words.as_slice(),
+            &mut self.source,
+            &mut self.sink,
+        )
+    }
+
+    /// What was written.
+    pub fn written(&self) -> &[u8] {
+        self.sink.bytes()
+    }
+}
+
+/// A disk without files, whose call of this number fails.
+pub fn disk(alloc: Global, failing: u64) -> Result<MemDisk, AllocError> {
+    Ok(MemDisk::new(alloc, vec![in alloc; failing]?))
+}
+
+/// What `build` makes of a text.
+pub fn built(rt: &(impl Abort + AllocGlobal), text: &[u8]) -> Result<Bytes, Fail> {
+    let mut outside = make_outside(rt.alloc(), "build", "", text, NONE)?;
+    let found = outside.convert(rt.alloc());
+    assert!(rt; found == Status::Done);
+    Ok(Bytes::from_slice(rt.alloc(), outside.written())?)
+}
