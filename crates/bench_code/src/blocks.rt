@@ -1,5 +1,5 @@
 ghost use Rattle.std.specs.Prelude.{IsTrue};
-ghost use Rattle.st_block.specs.Place.{keys_rise};
+ghost use Rattle.st_block.specs.BlockContents.{internal_keys_rise};
 
 use st_base::{Bytes, Scratch};
 use st_block::{Block, BlockKind, BlockWriter, index_keys_rise};
@@ -32,7 +32,7 @@ fn written(alloc: Global) -> Result<Bytes, AllocError> {
 
 // The places of so many keys, added up.
 fn looked_for(block: &Block, times: u64, scratch: &mut Scratch) -> u64
-    requires { IsTrue (keys_rise block.now.cells) }
+    requires { IsTrue (internal_keys_rise block.now.cells) }
 {
     let mut places = 0u64;
     for time in 0..times {

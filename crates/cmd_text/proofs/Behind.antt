@@ -5,7 +5,7 @@ use Rattle.std.specs.List.{enumerate_from}
 use Rattle.st_model.specs.declared.command.Command.{Command}
 use Rattle.cmd_text.specs.declared.script.Numbered.{Numbered}
 use Rattle.cmd_text.specs.Lines.{lines}
-use Rattle.cmd_text.specs.Script.{is_command_line, command_behind, in_front, commands_of, added, with_line, command_lines, script_of}
+use Rattle.cmd_text.specs.Script.{is_command_line, command_behind, in_front, commands_of, command_added, with_line, command_lines, script_of}
 
 -- commands in front of what the lines behind them give
 abbrev pub with_front : List Numbered → Result (List Numbered) ℕ → Result (List Numbered) ℕ
@@ -43,7 +43,7 @@ Step commands new number others b command =
     with_front new (commands_of (length new) others)
     ≡ with_front commands (cond b (in_front number command (commands_of (length commands + 1) others)) (commands_of (length commands) others))
 
-step : (commands new : List Numbered) (number : ℕ) (others : List (ℕ × List ℕ)) (b : Bool) (command : Option Command) → cond b (added commands number command) (Ok commands) ≡ Ok new → Step commands new number others b command
+step : (commands new : List Numbered) (number : ℕ) (others : List (ℕ × List ℕ)) (b : Bool) (command : Option Command) → cond b (command_added commands number command) (Ok commands) ≡ Ok new → Step commands new number others b command
 unfolding Step
 step commands new number others true None e = absurd (cc)
 step commands new number others true (Some command) e =
@@ -66,7 +66,7 @@ whole_line commands new number line lines e =
     step commands new number others (is_command_line line) (command_behind (length commands) line) e
     ∙ sym (ap (with_front commands) (chosen (length commands) number line others (is_command_line line)))
 
-fault-by : (commands : List Numbered) (number fault : ℕ) (others : List (ℕ × List ℕ)) (b : Bool) (command : Option Command) → cond b (added commands number command) (Ok commands) ≡ Err fault → with_front commands (cond b (in_front number command (commands_of (length commands + 1) others)) (commands_of (length commands) others)) ≡ Err fault
+fault-by : (commands : List Numbered) (number fault : ℕ) (others : List (ℕ × List ℕ)) (b : Bool) (command : Option Command) → cond b (command_added commands number command) (Ok commands) ≡ Err fault → with_front commands (cond b (in_front number command (commands_of (length commands + 1) others)) (commands_of (length commands) others)) ≡ Err fault
 fault-by commands number fault others true None e = cc
 fault-by commands number fault others true (Some command) e = absurd (cc)
 fault-by commands number fault others false command e = absurd (cc)

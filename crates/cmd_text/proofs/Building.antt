@@ -12,7 +12,7 @@ use Rattle.cmd_text.specs.declared.fault.BuildFault.TheVariants as build
 use Rattle.cmd_text.specs.declared.fault.WordFault.{WordFault}
 use Rattle.cmd_text.specs.declared.fault.WordFault.TheVariants.{NotAWord, TooLong, OutOfMemory}
 use Rattle.cmd_text.specs.Commands.{GivesBytes}
-use Rattle.cmd_text.specs.Build.{GivesEntries, GivesEntry, GivesMore, line_fault_of_word, and_then, at_end, build_of, entries_from, entry_of_line, is_above, is_within, put_of, some_entries, text_parts, unnumbered, with_build_line, with_entry, with_found}
+use Rattle.cmd_text.specs.Build.{GivesEntries, GivesEntry, GivesMore, line_fault_of_word, and_then, at_end, build_of, entries_from, entry_of_line, is_above, is_within, entry_with_value, some_entries, text_parts, unnumbered, with_build_line, with_line_entry, with_found}
 
 module _ (fits : List Entry → Bool) where
   -- nothing is read yet
@@ -89,25 +89,25 @@ module _ (fits : List Entry → Bool) where
   line_none entries number line e = ap (with_found fits entries number) e
 
   -- a line that stands for an entry
-  pub line_some : (entries : List Entry) (number : ℕ) (line : List ℕ) (entry : Entry) → entry_of_line line ≡ Some entry → with_build_line fits entries number line ≡ with_entry fits entries number entry
+  pub line_some : (entries : List Entry) (number : ℕ) (line : List ℕ) (entry : Entry) → entry_of_line line ≡ Some entry → with_build_line fits entries number line ≡ with_line_entry fits entries number entry
   line_some entries number line entry e = ap (with_found fits entries number) e
 
   -- its key or value passes a limit
-  pub entry_too_large : (entries : List Entry) (number : ℕ) (entry : Entry) → is_within entry ≡ false → with_entry fits entries number entry ≡ Err (TooLarge number)
+  pub entry_too_large : (entries : List Entry) (number : ℕ) (entry : Entry) → is_within entry ≡ false → with_line_entry fits entries number entry ≡ Err (TooLarge number)
   entry_too_large entries number entry within = stops (is_within entry) _ _ within
 
   -- its key isn't greater than the last one
-  pub entry_not_rising : (entries : List Entry) (number : ℕ) (entry : Entry) → is_within entry ≡ true → is_above (last_key entries) entry.key ≡ false → with_entry fits entries number entry ≡ Err (NotRising number)
+  pub entry_not_rising : (entries : List Entry) (number : ℕ) (entry : Entry) → is_within entry ≡ true → is_above (last_key entries) entry.key ≡ false → with_line_entry fits entries number entry ≡ Err (NotRising number)
   entry_not_rising entries number entry within above =
       goes-on (is_within entry) _ _ within ∙ stops (is_above (last_key entries) entry.key) _ _ above
 
   -- the entries don't fit with it
-  pub entry_not_fitting : (entries : List Entry) (number : ℕ) (entry : Entry) → is_within entry ≡ true → is_above (last_key entries) entry.key ≡ true → fits (entries ++ entry ∷ []) ≡ false → with_entry fits entries number entry ≡ Err (TooLarge number)
+  pub entry_not_fitting : (entries : List Entry) (number : ℕ) (entry : Entry) → is_within entry ≡ true → is_above (last_key entries) entry.key ≡ true → fits (entries ++ entry ∷ []) ≡ false → with_line_entry fits entries number entry ≡ Err (TooLarge number)
   entry_not_fitting entries number entry within above fit =
       goes-on (is_within entry) _ _ within ∙ goes-on (is_above (last_key entries) entry.key) _ _ above ∙ stops (fits (entries ++ entry ∷ [])) _ _ fit
 
   -- it is added
-  pub entry_added : (entries : List Entry) (number : ℕ) (entry : Entry) → is_within entry ≡ true → is_above (last_key entries) entry.key ≡ true → fits (entries ++ entry ∷ []) ≡ true → with_entry fits entries number entry ≡ Ok (entries ++ entry ∷ [])
+  pub entry_added : (entries : List Entry) (number : ℕ) (entry : Entry) → is_within entry ≡ true → is_above (last_key entries) entry.key ≡ true → fits (entries ++ entry ∷ []) ≡ true → with_line_entry fits entries number entry ≡ Ok (entries ++ entry ∷ [])
   entry_added entries number entry within above fit =
       goes-on (is_within entry) _ _ within ∙ goes-on (is_above (last_key entries) entry.key) _ _ above ∙ goes-on (fits (entries ++ entry ∷ [])) _ _ fit
 
@@ -123,12 +123,12 @@ last_key_added entries entry =
     ∙ ap (option_map (λ e. e.key)) (last-added entries entry)
 
 -- a key that is too long, before any value
-pub key_too_large : (key_read value_read : Option (List ℕ)) (key value : List ℕ) → key_read ≡ Some key → 65535 < length key → value_read ≡ Some value → (entry : Entry) × (put_of key_read value_read ≡ Some entry) × IsFalse (is_within entry)
+pub key_too_large : (key_read value_read : Option (List ℕ)) (key value : List ℕ) → key_read ≡ Some key → 65535 < length key → value_read ≡ Some value → (entry : Entry) × (entry_with_value key_read value_read ≡ Some entry) × IsFalse (is_within entry)
 key_too_large key_read value_read key value e long f =
-    (unnumbered key (Put value), ap (λ k. put_of k value_read) e ∙ ap (put_of (Some key)) f, and_left (nat_le (length key) 65535) (nat_le (length value) 1048576) (lt-leb (length key) 65535 long))
+    (unnumbered key (Put value), ap (λ k. entry_with_value k value_read) e ∙ ap (entry_with_value (Some key)) f, and_left (nat_le (length key) 65535) (nat_le (length value) 1048576) (lt-leb (length key) 65535 long))
 
 -- a key that is too long, before what isn't read as a value
-pub fault_behind_long : (fault : WordFault) (key_read value_read : Option (List ℕ)) (key : List ℕ) → key_read ≡ Some key → 65535 < length key → GivesBytes (Err fault) 1048576 value_read → GivesEntry (Err (line_fault_of_word fault)) (put_of key_read value_read)
-fault_behind_long NotAWord key_read value_read key e long gives = ap (λ k. put_of k value_read) e ∙ ap (put_of (Some key)) gives
+pub fault_behind_long : (fault : WordFault) (key_read value_read : Option (List ℕ)) (key : List ℕ) → key_read ≡ Some key → 65535 < length key → GivesBytes (Err fault) 1048576 value_read → GivesEntry (Err (line_fault_of_word fault)) (entry_with_value key_read value_read)
+fault_behind_long NotAWord key_read value_read key e long gives = ap (λ k. entry_with_value k value_read) e ∙ ap (entry_with_value (Some key)) gives
 fault_behind_long TooLong key_read value_read key e long gives = key_too_large key_read value_read key gives.0 e long gives.1
 fault_behind_long OutOfMemory key_read value_read key e long gives = tt

@@ -46,21 +46,21 @@ abbrev pub unnumbered : List ℕ → Mark → Entry
 unnumbered key mark = record { key = key; number = 0; mark = mark }
 
 -- the entry of a key and its value, where both are there
-abbrev pub put_of : Option (List ℕ) → Option (List ℕ) → Option Entry
-put_of key_read value_read = do
+abbrev pub entry_with_value : Option (List ℕ) → Option (List ℕ) → Option Entry
+entry_with_value key_read value_read = do
   key ← key_read
   value ← value_read
   Some (unnumbered key (Put value))
 
 -- `put K V`
-unfoldable pub put_entry : List (List ℕ) → Option Entry
-put_entry arguments = do
+unfoldable pub entry_of_put : List (List ℕ) → Option Entry
+entry_of_put arguments = do
   two ← two_words arguments
-  put_of (bytes_of_word two.0) (bytes_of_word two.1)
+  entry_with_value (bytes_of_word two.0) (bytes_of_word two.1)
 
 -- `del K`
-unfoldable pub del_entry : List (List ℕ) → Option Entry
-del_entry arguments = do
+unfoldable pub entry_of_del : List (List ℕ) → Option Entry
+entry_of_del arguments = do
   one ← one_word arguments
   key ← bytes_of_word one
   Some (unnumbered key Gone)
@@ -69,8 +69,8 @@ del_entry arguments = do
 abbrev pub entry_of_words : List (List ℕ) → Option Entry
 entry_of_words [] = None
 entry_of_words (name ∷ arguments) =
-    if same name (codes "put") then put_entry arguments
-    else (if same name (codes "del") then del_entry arguments
+    if same name (codes "put") then entry_of_put arguments
+    else (if same name (codes "del") then entry_of_del arguments
     else None)
 
 -- what a line, without its line feed, stands for: an entry, whatever its size
@@ -89,8 +89,8 @@ is_above None key = true
 is_above (Some last) key = below last key
 
 -- the entries with this one more, which stands in the line of this number; or what is wrong with it
-abbrev pub with_entry : (List Entry → Bool) → List Entry → ℕ → Entry → Result (List Entry) BuildFault
-with_entry fits entries number entry =
+abbrev pub with_line_entry : (List Entry → Bool) → List Entry → ℕ → Entry → Result (List Entry) BuildFault
+with_line_entry fits entries number entry =
     if not (is_within entry) then Err (TooLarge number)
     else (if not (is_above (last_key entries) entry.key) then Err (NotRising number)
     else (if not (fits (entries ++ entry ∷ [])) then Err (TooLarge number)
@@ -99,7 +99,7 @@ with_entry fits entries number entry =
 -- the same, where the line stands for an entry
 abbrev pub with_found : (List Entry → Bool) → List Entry → ℕ → Option Entry → Result (List Entry) BuildFault
 with_found fits entries number None = Err (Line number)
-with_found fits entries number (Some entry) = with_entry fits entries number entry
+with_found fits entries number (Some entry) = with_line_entry fits entries number entry
 
 -- the entries so far with that of one more line, or the line's fault
 abbrev pub with_build_line : (List Entry → Bool) → List Entry → ℕ → List ℕ → Result (List Entry) BuildFault

@@ -134,9 +134,9 @@ command_of line = command_of_words (words line)
 -- ---- what a reader returned
 
 -- bytes past a limit are no part of a command
-abbrev pub fault_of : MakeFault → CommandFault
-fault_of Limit = NotACommand
-fault_of make.OutOfMemory = OutOfMemory
+abbrev pub limit_fault_of : MakeFault → CommandFault
+limit_fault_of Limit = NotACommand
+limit_fault_of make.OutOfMemory = OutOfMemory
 
 -- it is what is read by the rules above, unless memory is wanted
 abbrev pub Gives : {X : Type 0} → Result X CommandFault → Option X → Type 0

@@ -37,11 +37,11 @@ script_of text = commands_of 0 (command_lines text)
 
 -- ---- one line more
 
-abbrev pub added : List Numbered → ℕ → Option Command → Result (List Numbered) ℕ
-added commands number None = Err number
-added commands number (Some command) = Ok (commands ++ record { line = number; command = command } ∷ [])
+abbrev pub command_added : List Numbered → ℕ → Option Command → Result (List Numbered) ℕ
+command_added commands number None = Err number
+command_added commands number (Some command) = Ok (commands ++ record { line = number; command = command } ∷ [])
 
 -- the commands with that of one line more
 abbrev pub with_line : List Numbered → ℕ → List ℕ → Result (List Numbered) ℕ
 with_line commands number line =
-    if is_command_line line then added commands number (command_behind (length commands) line) else Ok commands
+    if is_command_line line then command_added commands number (command_behind (length commands) line) else Ok commands

@@ -1,8 +1,8 @@
 ghost use Rattle.std.specs.Prelude.{◌≡◌, ℕ, ◌+◌, ◌<◌, ◌∷◌, ◌++◌, List, [], Err, true, length, IfOk, IfSome, IsTrue, MatchOption, Option};
 ghost use Rattle.std.specs.List.{AllByRecursion as Each};
 ghost use Rattle.st_base.specs.Rows.{AreRows, last_key};
-ghost use Rattle.cmd_text.specs.Build.{GivesEntries, GivesEntry, GivesMore, IsBuildEntry, build_of, del_entry, entry_of_line, is_above, is_within};
-ghost use Rattle.cmd_text.specs.Build.{put_entry, put_of, text_parts, unnumbered, with_build_line, with_entry};
+ghost use Rattle.cmd_text.specs.Build.{GivesEntries, GivesEntry, GivesMore, IsBuildEntry, build_of, entry_of_del, entry_of_line, is_above, is_within};
+ghost use Rattle.cmd_text.specs.Build.{entry_of_put, entry_with_value, text_parts, unnumbered, with_build_line, with_line_entry};
 ghost use Rattle.cmd_text.specs.Commands.{GivesBytes};
 
 use crate::bytes::{is, read_key, read_value};
@@ -29,7 +29,7 @@ pub fn next_build_line(text: &[u8]) -> Option<(&[u8], &[u8])>
 // The first fault of a line `put K V` whose key has this one: it is a line of that kind only if the value is a word.
 fn put_fault(key: WordFault, value: Result<Value, WordFault>) -> BuildLineFault
     ensures { (key_read value_read : Option (List ℕ)) → GivesBytes (Err key) KEY_BYTES key_read → GivesBytes value VALUE_BYTES value_read
-        → GivesEntry (Err result) (put_of key_read value_read) }
+        → GivesEntry (Err result) (entry_with_value key_read value_read) }
 {
     match key {
         WordFault::TooLong => match value {
@@ -47,7 +47,7 @@ fn put_of(
     value: Result<Value, WordFault>,
 ) -> Result<(Key, Mark), BuildLineFault>
     ensures { (key_read value_read : Option (List ℕ)) → GivesBytes key KEY_BYTES key_read → GivesBytes value VALUE_BYTES value_read
-        → GivesEntry result (put_of key_read value_read) }
+        → GivesEntry result (entry_with_value key_read value_read) }
 {
     match key {
         Ok(key) => Ok((key, Mark::Put(value?))),
@@ -56,18 +56,18 @@ fn put_of(
 }
 
 // `put K V`
-#[tactic(auto, unfolding(crate::specs::Build::put_entry))]
+#[tactic(auto, unfolding(crate::specs::Build::entry_of_put))]
 fn read_put(alloc: Global, arguments: Words<'_>) -> Result<(Key, Mark), BuildLineFault>
-    ensures { GivesEntry result (put_entry arguments.entry) }
+    ensures { GivesEntry result (entry_of_put arguments.entry) }
 {
     let (key, value) = arguments.two().ok_or(BuildLineFault::Line)?;
     put_of(read_key(alloc, key), read_value(alloc, value))
 }
 
 // `del K`
-#[tactic(auto, unfolding(crate::specs::Build::del_entry))]
+#[tactic(auto, unfolding(crate::specs::Build::entry_of_del))]
 fn read_del(alloc: Global, arguments: Words<'_>) -> Result<(Key, Mark), BuildLineFault>
-    ensures { GivesEntry result (del_entry arguments.entry) }
+    ensures { GivesEntry result (entry_of_del arguments.entry) }
 {
     let key = arguments.one().ok_or(BuildLineFault::Line)?;
     let key = read_key(alloc, key)?;
@@ -104,7 +104,7 @@ fn is_above_last(entries: &Entries, key: &Key) -> bool
 // Puts the entry of the line of this number at the end.
 fn add_entry(entries: &mut Entries, line: u32, key: Key, mark: Mark) -> Result<(), BuildFault>
     requires { IsTrue (is_within (unnumbered key mark)) }
-    ensures { GivesMore result entries.new (with_entry (λ _. true) entries.old line (unnumbered key mark)) }
+    ensures { GivesMore result entries.new (with_line_entry (λ _. true) entries.old line (unnumbered key mark)) }
 {
     if !is_above_last(entries, &key) {
         return Err(BuildFault::NotRising { line });

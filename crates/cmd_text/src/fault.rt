@@ -1,5 +1,5 @@
 ghost use Rattle.std.specs.Prelude.{◌≡◌};
-ghost use Rattle.cmd_text.specs.Commands.{command_fault_of, fault_of, word_fault_of};
+ghost use Rattle.cmd_text.specs.Commands.{command_fault_of, limit_fault_of, word_fault_of};
 ghost use Rattle.cmd_text.specs.Build.{line_fault_of_word};
 ghost use Rattle.cmd_text.specs.Replies.{line_fault_of, reply_fault_of};
 ghost use Rattle.cmd_text.specs.declared.fault.CommandFault.TheVariants as command;
@@ -106,7 +106,7 @@ impl From<AllocError> for CommandFault {
 }
 
 impl From<MakeFault> for CommandFault {
-    ghost from_gives = { λ fault result. result ≡ fault_of fault };
+    ghost from_gives = { λ fault result. result ≡ limit_fault_of fault };
 
     fn from(fault: MakeFault) -> CommandFault {
         match fault {

@@ -2,7 +2,7 @@
 use crate::disks::{FATES, left_by};
 use crate::puts::{append_both, one_put};
 use st_device::{Disk, MemDisk};
-use st_recover::{OpenFault, recover};
+use log_recover::{OpenFault, recover};
 use st_wal::LogRecord;
 use std::alloc::Global;
 use std::test::Fail;

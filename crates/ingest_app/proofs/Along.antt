@@ -3,11 +3,11 @@ use Rattle.std.proofs.Common.{◌≡◌, ◌⊎◌, inl, inr, ⊎_elim, ℕ, zer
 use Rattle.std.specs.Prelude.{is_some}
 use Rattle.std.specs.List.{AllByRecursion as Each}
 use Rattle.st_base.specs.Count.{Rose}
-use Rattle.st_device.specs.Disk.{Image, Told, IsHonest, Leaves, Passes}
+use Rattle.st_device.specs.Disk.{Image, DiskTold, IsHonest, Leaves, Passes}
 use Rattle.st_device.proofs.Moments.{leaves_then}
-use Rattle.st_engine.specs.Engine.{OpensTo}
-use Rattle.st_engine.specs.Store.{Stands}
-use Rattle.st_engine.specs.declared.store.Store.{Store}
+use Rattle.log_engine.specs.Engine.{OpensTo}
+use Rattle.log_engine.specs.MarkStore.{StandsForState}
+use Rattle.log_engine.specs.declared.store.MarkStore.{MarkStore}
 use Rattle.st_model.specs.declared.command.Asked.{Asked}
 use Rattle.st_model.specs.declared.command.Call.{Call}
 use Rattle.st_model.specs.declared.command.Command.{Command}
@@ -18,7 +18,7 @@ use Rattle.st_model.specs.History.{after_call, is_change}
 use Rattle.st_model.specs.Legal.{IsStep, after, changes_in, is_stop}
 use Rattle.st_model.proofs.Grow.{Fails, SoFar, earlier_state, more_changes, so_far_grows, so_far_start}
 use Rattle.st_model.proofs.Places.{Each-append}
-use Rattle.ingest_app.specs.Answer.{IsOfCall, Prints, Steps, call_of}
+use Rattle.ingest_app.specs.Answer.{IsOfCall, Prints, EngineSteps, answered_call}
 use Rattle.ingest_app.specs.Client.{capacity, transcript}
 use Rattle.ingest_app.specs.Crash.{IsAfterFirst, IsAmong, IsOfRun, IsWithCutOff, state_after, state_now}
 use Rattle.ingest_app.specs.Op.{refused_family, stranger_of}
@@ -30,10 +30,10 @@ IsKnown call = (call.reply ≡ Refused Stopped) ⊎ (refused_family call.reply �
 
 -- The calls so far are legal, the store stands where they lead, they are printed, and each image opens to the contents
 -- after the first of them.
-pub record Along (name text : List ℕ) (opening : ModelState) (before now : Told) (store : Store) (stopped : Option ℕ) (taken : List Asked) : Type 0 where
+pub record Along (name text : List ℕ) (opening : ModelState) (before now : DiskTold) (store : MarkStore) (stopped : Option ℕ) (taken : List Asked) : Type 0 where
   pub calls : List Call
   pub state : ModelState
-  pub stands : Stands store state
+  pub stands : StandsForState store state
   pub so_far : SoFar opening capacity (is_some stopped) calls state taken
   pub unknown : Each IsKnown calls
   pub printed : text ≡ transcript name calls
@@ -127,46 +127,46 @@ module _ (opening : ModelState) (failed failed' : Bool) (calls : List Call) (cal
       })
 
 -- the calls with one more
-module _ {D : Type 0} (tells : D → Told) (name text text' : List ℕ) (opening : ModelState) (before : Told) (mid new : D) (old_store new_store : Store) (was is : Option ℕ) (taken : List Asked) (command : Command)
+module _ {D : Type 0} (tells : D → DiskTold) (name text text' : List ℕ) (opening : ModelState) (before : DiskTold) (mid new : D) (old_store new_store : MarkStore) (was is : Option ℕ) (taken : List Asked) (command : Command)
     (p : Passes before (tells mid)) (q : Passes (tells mid) (tells new)) (room : old_store.capacity ≡ capacity) (old : Along name text opening before (tells mid) old_store was taken)
     (more : Prints old_store new_store was is (tells mid) (tells new) command text text') (same : (was ≡ None) ⊎ (new ≡ mid)) where
   call : Call
-  call = call_of command more.answer
+  call = answered_call command more.answer
 
-  steps : Steps old_store new_store was is (tells mid) (tells new) old.state (call_of command more.answer)
+  steps : EngineSteps old_store new_store was is (tells mid) (tells new) old.state (answered_call command more.answer)
   steps = more.steps old.state old.stands
 
-  step : IsStep old.state capacity (call_of command more.answer)
-  step = subst (λ n. IsStep old.state n (call_of command more.answer)) room steps.step
+  step : IsStep old.state capacity (answered_call command more.answer)
+  step = subst (λ n. IsStep old.state n (answered_call command more.answer)) room steps.step
 
-  fails : Fails (is_some was) (is_some is) (call_of command more.answer)
+  fails : Fails (is_some was) (is_some is) (answered_call command more.answer)
   fails = record {
     change = λ change. ap is_some (steps.change change);
     still = λ running. let before_it = steps.still (none_of is running) in (ap is_some before_it.0, before_it.1);
   }
 
-  pub along_grows : Along name text' opening before (tells new) new_store is (taken ++ (call_of command more.answer).asked ∷ [])
+  pub along_grows : Along name text' opening before (tells new) new_store is (taken ++ (answered_call command more.answer).asked ∷ [])
   along_grows =
-      let calls' : List Call = old.calls ++ call_of command more.answer ∷ [] in
+      let calls' : List Call = old.calls ++ answered_call command more.answer ∷ [] in
       let weaker : IsHonest before → Leaves (IsOfRun opening calls') before (tells mid) = λ honest image left.
-      more_of_run opening (is_some was) (is_some is) old.calls (call_of command more.answer) old.state taken old.so_far step fails image (old.crash honest image left) in
+      more_of_run opening (is_some was) (is_some is) old.calls (answered_call command more.answer) old.state taken old.so_far step fails image (old.crash honest image left) in
       record {
         calls = calls';
-        state = after old.state (call_of command more.answer);
+        state = after old.state (answered_call command more.answer);
         stands = steps.stands;
-        so_far = so_far_grows opening capacity (is_some was) (is_some is) old.calls (call_of command more.answer) old.state taken old.so_far step fails;
-        unknown = Each-append IsKnown old.calls (call_of command more.answer ∷ []) old.unknown (steps.unknown, tt);
-        printed = transcript_grows name old.calls (call_of command more.answer) text' text old.printed more.printed;
+        so_far = so_far_grows opening capacity (is_some was) (is_some is) old.calls (answered_call command more.answer) old.state taken old.so_far step fails;
+        unknown = Each-append IsKnown old.calls (answered_call command more.answer ∷ []) old.unknown (steps.unknown, tt);
+        printed = transcript_grows name old.calls (answered_call command more.answer) text' text old.printed more.printed;
         crash = λ honest. ⊎_elim
             (λ (running : was ≡ None). leaves_then (IsOfRun opening calls') p q (weaker honest)
-            (λ image left. call_of_run opening (is_some was) (is_some is) old.calls (call_of command more.answer) old.state taken old.so_far step fails image (steps.crash (p.honest_on honest) running image left)))
+            (λ image left. call_of_run opening (is_some was) (is_some is) old.calls (answered_call command more.answer) old.state taken old.so_far step fails image (steps.crash (p.honest_on honest) running image left)))
             (λ (is_same : new ≡ mid). subst (λ disk. Leaves (IsOfRun opening calls') before (tells disk)) (sym is_same) (weaker honest))
             same;
         whole = λ honest running image now. steps.whole (p.honest_on honest) running image now;
       }
 
 -- before the first call
-pub along_start : (name text : List ℕ) (opening : ModelState) (before : Told) (store : Store) (stopped : Option ℕ) → text ≡ transcript name [] → Stands store opening → opening.place ≡ 0 → stopped ≡ None
+pub along_start : (name text : List ℕ) (opening : ModelState) (before : DiskTold) (store : MarkStore) (stopped : Option ℕ) → text ≡ transcript name [] → StandsForState store opening → opening.place ≡ 0 → stopped ≡ None
     → (IsHonest before → Leaves (OpensTo opening) before before) → (IsHonest before → (image : Image) → before.now image → OpensTo opening image) → Along name text opening before before store stopped []
 along_start name text opening before store stopped printed stands place running leaves opens = record {
   calls = [];

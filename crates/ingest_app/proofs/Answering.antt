@@ -2,7 +2,7 @@
 use Rattle.std.proofs.Common.{◌≡◌, ◌⊎◌, inl, inr, ⊎_elim, ℕ, ◌+◌, Bool, true, false, cond, nat_lt, nat_le, List, [], ◌∷◌, ◌++◌, map, length, Option, Some, None, slice_get, refl, sym, ◌∙◌, ap, subst, arith, true≢false}
 use Rattle.std.specs.Prelude.{IsSome, Result, Ok, Err, IfOk}
 use Rattle.st_base.specs.Entries.{add_charge}
-use Rattle.st_device.specs.Disk.{Image, Told, IsHonest, Leaves}
+use Rattle.st_device.specs.Disk.{Image, DiskTold, IsHonest, Leaves}
 use Rattle.st_model.specs.declared.change.Batch.{Batch}
 use Rattle.st_model.specs.declared.change.Op.{Op}
 use Rattle.st_model.specs.declared.command.Call.{Call}
@@ -19,13 +19,13 @@ use Rattle.st_model.specs.History.{after_call, is_change}
 use Rattle.st_model.specs.Legal.{after, is_stop}
 use Rattle.st_model.specs.Reply.{IsOrStops}
 use Rattle.st_model.specs.State.{greatest_number}
-use Rattle.st_engine.specs.Engine.{OpensTo, written}
-use Rattle.st_engine.specs.Op.{strange_names, strangers}
-use Rattle.st_engine.specs.Store.{IsFirst, Stands}
-use Rattle.st_engine.specs.declared.store.Store.{Store}
-use Rattle.st_engine.proofs.Default.{unknown_is}
-use Rattle.st_engine.proofs.Write.{accepted_known}
-use Rattle.ingest_app.specs.Answer.{Steps, call_of}
+use Rattle.log_engine.specs.Engine.{OpensTo, state_written}
+use Rattle.log_engine.specs.Op.{strange_names, strangers}
+use Rattle.log_engine.specs.MarkStore.{IsFirst, StandsForState}
+use Rattle.log_engine.specs.declared.store.MarkStore.{MarkStore}
+use Rattle.log_engine.proofs.Default.{unknown_is}
+use Rattle.log_engine.proofs.Write.{accepted_known}
+use Rattle.ingest_app.specs.Answer.{EngineSteps, answered_call}
 use Rattle.ingest_app.specs.Op.{refused_family, refused_name}
 use Rattle.ingest_app.specs.declared.answer.Answer.{Answer}
 
@@ -116,10 +116,10 @@ stopped_is o x is none = cc (sym is ∙ none)
 -- ---- the steps
 
 -- an accepted write
-pub accepted_steps : (old new : Store) (was is : Option ℕ) (before after_it : Told) (state : ModelState) (batch : Batch) (place last : ℕ) → Stands old state → was ≡ None
-    → slice_get (write_refusals state old.capacity batch.ops) 0 ≡ None → place ≡ state.place + 1 → last ≡ state.last + length batch.ops → Stands new (written state batch)
-    → (IsHonest before → Leaves (λ image. OpensTo state image ⊎ OpensTo (written state batch) image) before after_it) → (IsHonest before → (image : Image) → after_it.now image → OpensTo (written state batch) image)
-    → Steps old new was is before after_it state (call_of (Write batch) (record { place = place; reply = Written last }))
+pub accepted_steps : (old new : MarkStore) (was is : Option ℕ) (before after_it : DiskTold) (state : ModelState) (batch : Batch) (place last : ℕ) → StandsForState old state → was ≡ None
+    → slice_get (write_refusals state old.capacity batch.ops) 0 ≡ None → place ≡ state.place + 1 → last ≡ state.last + length batch.ops → StandsForState new (state_written state batch)
+    → (IsHonest before → Leaves (λ image. OpensTo state image ⊎ OpensTo (state_written state batch) image) before after_it) → (IsHonest before → (image : Image) → after_it.now image → OpensTo (state_written state batch) image)
+    → EngineSteps old new was is before after_it state (answered_call (Write batch) (record { place = place; reply = Written last }))
 accepted_steps old new was is before after_it state batch place last h running unrefused places lasts stands crash whole = record {
   step = record {
     grows = refl;
@@ -130,15 +130,15 @@ accepted_steps old new was is before after_it state batch place last h running u
   still = λ _. (running, refl);
   unknown = inr (sym (ap (λ names. slice_get names 0) (accepted_known state h.family old.capacity batch.ops (record { families = h.families }) unrefused)));
   stands = stands;
-  crash = λ honest _ image left. ⊎_elim (λ (b : OpensTo state image). inl b) (λ (a : OpensTo (written state batch) image). inr (inl a)) (crash honest image left);
+  crash = λ honest _ image left. ⊎_elim (λ (b : OpensTo state image). inl b) (λ (a : OpensTo (state_written state batch) image). inr (inl a)) (crash honest image left);
   whole = λ honest _. whole honest;
 }
 
 -- a refused one
-pub refused_steps : (old new : Store) (was is : Option ℕ) (before after_it : Told) (state : ModelState) (batch : Batch) (place : ℕ) (refusal : Refusal) → Stands old state → Stands new state → place ≡ new.place → (refusal ≡ OutOfMemory → ⊥)
+pub refused_steps : (old new : MarkStore) (was is : Option ℕ) (before after_it : DiskTold) (state : ModelState) (batch : Batch) (place : ℕ) (refusal : Refusal) → StandsForState old state → StandsForState new state → place ≡ new.place → (refusal ≡ OutOfMemory → ⊥)
     → IsFirst (write_refusals state old.capacity batch.ops) refusal → (is ≡ None → (was ≡ None) × (is_stop (Refused refusal) ≡ false))
-    → (IsHonest before → was ≡ None → Leaves (λ image. OpensTo state image ⊎ ((refusal ≡ DiskFault) × OpensTo (written state batch) image)) before after_it) → (IsHonest before → is ≡ None → (image : Image) → after_it.now image → OpensTo state image)
-    → Steps old new was is before after_it state (call_of (Write batch) (record { place = place; reply = Refused refusal }))
+    → (IsHonest before → was ≡ None → Leaves (λ image. OpensTo state image ⊎ ((refusal ≡ DiskFault) × OpensTo (state_written state batch) image)) before after_it) → (IsHonest before → is ≡ None → (image : Image) → after_it.now image → OpensTo state image)
+    → EngineSteps old new was is before after_it state (answered_call (Write batch) (record { place = place; reply = Refused refusal }))
 refused_steps old new was is before after_it state batch place refusal h stands places memory first still crash whole = record {
   step = record {
     grows = omega arith;
@@ -149,16 +149,16 @@ refused_steps old new was is before after_it state batch place refusal h stands 
   still = still;
   unknown = write_unknown state h.family old.capacity batch.ops refusal h.families first memory;
   stands = stands;
-  crash = λ honest running image left. ⊎_elim (λ (b : OpensTo state image). inl b) (λ (a : (refusal ≡ DiskFault) × OpensTo (written state batch) image). inr (inr (ap Refused a.0, a.1))) (crash honest running image left);
+  crash = λ honest running image left. ⊎_elim (λ (b : OpensTo state image). inl b) (λ (a : (refusal ≡ DiskFault) × OpensTo (state_written state batch) image). inr (inr (ap Refused a.0, a.1))) (crash honest running image left);
   whole = whole;
 }
 
 -- a read
-pub get_steps : (store : Store) (was : Option ℕ) (before : Told) (state : ModelState) (family key : List ℕ) (answer : Answer) → Stands store state → answer.place ≡ state.place → answer.reply ≡ get_answer state state.last family key
+pub get_steps : (store : MarkStore) (was : Option ℕ) (before : DiskTold) (state : ModelState) (family key : List ℕ) (answer : Answer) → StandsForState store state → answer.place ≡ state.place → answer.reply ≡ get_answer state state.last family key
     → (IsHonest before → was ≡ None → Leaves (OpensTo state) before before) → (IsHonest before → was ≡ None → (image : Image) → before.now image → OpensTo state image)
-    → Steps store store was was before before state (call_of (Get family key) answer)
+    → EngineSteps store store was was before before state (answered_call (Get family key) answer)
 get_steps store was before state family key answer h place is crash whole =
-    let call : Call = call_of (Get family key) answer in
+    let call : Call = answered_call (Get family key) answer in
     let names = unknown_is state h.family (family ∷ []) (record { families = h.families }) in
     let same_reply : answer.reply ≡ first_or (map UnknownFamily (strange_names (family ∷ []))) (found (read_in state state.last family key)) = is ∙ ap (λ us. first_or us (found (read_in state state.last family key))) names in
     let kind = read_is (strange_names (family ∷ [])) (read_in state state.last family key) in
@@ -177,7 +177,7 @@ get_steps store was before state family key answer h place is crash whole =
       change = λ e. absurd (true≢false (sym e ∙ change));
       still = λ none. (none, stop);
       unknown = inr (get_unknown state h.family family key answer.reply h.families is);
-      stands = subst (λ (s : ModelState). Stands store s) (sym stays) h;
+      stands = subst (λ (s : ModelState). StandsForState store s) (sym stays) h;
       crash = λ honest running image left. inl (crash honest running image left);
       whole = λ honest running image now. subst (λ (s : ModelState). OpensTo s image) (sym stays) (whole honest running image now);
     }

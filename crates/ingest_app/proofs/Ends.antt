@@ -2,8 +2,8 @@
 use Rattle.std.proofs.Common.{◌≡◌, ◌⊎◌, ℕ, List, [], Option, Some, None, Ok, Err, IsTrue, IsSomeAnd, refl, inl, inr, ◌∙◌, ap, sym, ◌++◌}
 use Rattle.std.specs.Prelude.{Result}
 use Rattle.st_base.specs.Count.{Rose}
-use Rattle.st_device.specs.Disk.{Told, IsHonest}
-use Rattle.st_recover.specs.Opens.{Damage, opens}
+use Rattle.st_device.specs.Disk.{DiskTold, IsHonest}
+use Rattle.log_recover.specs.Opens.{Damage, opens}
 use Rattle.st_stream.specs.Inputs.{InputsTold}
 use Rattle.st_stream.specs.Sink.{SinkTold}
 use Rattle.st_wal.specs.declared.logged.Logged.{Logged}
@@ -14,7 +14,7 @@ use Rattle.ingest_app.specs.declared.status.Status.{Status}
 use Rattle.ingest_app.specs.declared.status.Status.TheVariants.{Done, Refused, Memory, InputFault, DiskFault, SinkFault, Script, Damaged, NotYet}
 
 -- a run of a script ends as a run of its file
-pub client_of_script : (file : Option (List ℕ)) (name : List ℕ) (commands : List Numbered) (before after : Told) (status : Status) (text : List ℕ) → client_script file ≡ Ok commands → EndsScript commands name before after status text → EndsClient file name before after status text
+pub client_of_script : (file : Option (List ℕ)) (name : List ℕ) (commands : List Numbered) (before after : DiskTold) (status : Status) (text : List ℕ) → client_script file ≡ Ok commands → EndsScript commands name before after status text → EndsClient file name before after status text
 client_of_script file name commands before after Done text read h = record { commands = commands; read = read; ends = h }
 client_of_script file name commands before after DiskFault text read h = record { commands = commands; read = read; ends = h }
 client_of_script file name commands before after Damaged text read h = record { commands = commands; read = read; ends = h }
@@ -26,7 +26,7 @@ client_of_script file name commands before after Script text read h = absurd h
 client_of_script file name commands before after NotYet text read h = absurd h
 
 -- a run of a client's file ends as a run of the client
-pub named_of_file : (name : List ℕ) (before after : InputsTold) (disk left : Told) (status : Status) (text : List ℕ) → IsOfFile status → (status ≡ DiskFault → Faulted disk left) → (IsTrue before.known → EndsClient (before.file name) name disk left status text) → EndsNamed name before after disk left status text
+pub named_of_file : (name : List ℕ) (before after : InputsTold) (disk left : DiskTold) (status : Status) (text : List ℕ) → IsOfFile status → (status ≡ DiskFault → Faulted disk left) → (IsTrue before.known → EndsClient (before.file name) name disk left status text) → EndsNamed name before after disk left status text
 named_of_file name before after disk left Done text is fault h = h
 named_of_file name before after disk left DiskFault text is fault h = (fault refl, h)
 named_of_file name before after disk left Damaged text is fault h = h
@@ -51,7 +51,7 @@ nothing_there : {A : Type 0} (P : A → Type 0) (found : Option A) → found ≡
 nothing_there P None e h = h
 nothing_there P (Some x) e h = cc
 
-module _ (words : List (List ℕ)) (before after : InputsTold) (disk left : Told) (sink_before sink_after : SinkTold) where
+module _ (words : List (List ℕ)) (before after : InputsTold) (disk left : DiskTold) (sink_before sink_after : SinkTold) where
   abbrev pub EndsSo : Status → Type 0
   EndsSo status = Ended words before after disk left sink_before sink_after status
 

@@ -16,7 +16,7 @@ use Rattle.sst_writer.specs.declared.fault.WriterFault.{WriterFault}
 use Rattle.sst_writer.specs.declared.fault.WriterFault.TheVariants as writer
 use Rattle.cmd_text.specs.declared.fault.BuildFault.{BuildFault}
 use Rattle.cmd_text.specs.declared.fault.BuildFault.TheVariants as build
-use Rattle.cmd_text.specs.Build.{GivesMore, build_of, entries_from, is_above, is_within, some_entries, text_parts, unnumbered, with_build_line, with_entry}
+use Rattle.cmd_text.specs.Build.{GivesMore, build_of, entries_from, is_above, is_within, some_entries, text_parts, unnumbered, with_build_line, with_line_entry}
 use Rattle.cmd_text.proofs.Building.{build_end, build_line_fault, build_cut, entry_added, entry_not_fitting, entry_not_rising}
 use Rattle.ingest_app.specs.Convert.{EndsBytes, GivesTable, GivesWriter, build_cause, fault_at, fit_table, refused_text, source_limit, unfinished}
 use Rattle.ingest_app.specs.declared.conversions.Conversion.TheVariants.{Build}
@@ -38,14 +38,14 @@ module _ (old : List Entry) (number : ℕ) (key : List ℕ) (mark : Mark) (withi
   above rises = sym (same-above (last_key old) key) ∙ is-true (rises_to old key) rises
 
   -- the writer takes it
-  pub taken : (new : List Entry) → new ≡ old ++ unnumbered key mark ∷ [] → length (written_table External new) ≤ greatest_size External → (IsFalse (rises_to old key) → ⊥) → with_entry fit_table old number (unnumbered key mark) ≡ Ok new
+  pub taken : (new : List Entry) → new ≡ old ++ unnumbered key mark ∷ [] → length (written_table External new) ≤ greatest_size External → (IsFalse (rises_to old key) → ⊥) → with_line_entry fit_table old number (unnumbered key mark) ≡ Ok new
   taken new is fits rises =
       let fit : fit_table (old ++ unnumbered key mark ∷ []) ≡ true = subst (λ l. fit_table l ≡ true) is (le-leb (length (written_table External new)) (greatest_size External) fits) in
       entry_added fit_table old number (unnumbered key mark) within (above rises) fit ∙ ap Ok (sym is)
 
   -- the writer doesn't take it
   pub not_taken : (new : List Entry) (fault : WriterFault) → (fault ≡ writer.NotRising) ↔ IsFalse (rises_to old key) → (fault ≡ writer.TooLarge → greatest_size External < length (written_table External (old ++ unnumbered key mark ∷ [])))
-      → GivesMore {X = Unit {0}} (Err (fault_at number fault)) new (with_entry fit_table old number (unnumbered key mark))
+      → GivesMore {X = Unit {0}} (Err (fault_at number fault)) new (with_line_entry fit_table old number (unnumbered key mark))
   not_taken new writer.NotRising rises large =
       entry_not_rising fit_table old number (unnumbered key mark) within (sym (same-above (last_key old) key) ∙ rises.0 refl)
   not_taken new writer.TooLarge rises large =

@@ -3,20 +3,20 @@ use Rattle.std.proofs.Common.{◌≡◌, ◌⊎◌, inl, inr, ⊎_elim, ℕ, Boo
 use Rattle.st_base.specs.Bytes.{default_family}
 use Rattle.st_base.specs.declared.entry.Entry.{Entry}
 use Rattle.st_base.specs.declared.entry.Mark.{Mark}
-use Rattle.st_device.specs.Disk.{Image, Told, IsHonest, Leaves, Passes}
-use Rattle.st_engine.specs.Engine.{OpensTo}
-use Rattle.st_engine.proofs.Writing.{in_image}
+use Rattle.st_device.specs.Disk.{Image, DiskTold, IsHonest, Leaves, Passes}
+use Rattle.log_engine.specs.Engine.{OpensTo}
+use Rattle.log_engine.proofs.Writing.{in_image}
 use Rattle.st_model.specs.declared.command.Call.{Call}
 use Rattle.st_model.specs.declared.state.ModelState.{ModelState}
 use Rattle.st_model.specs.Contents.{as_entry, contents, is_kept, kept_marks, opened}
 use Rattle.st_model.specs.History.{accepted_calls, after_call}
-use Rattle.st_recover.specs.Contents.{contents_of, known_of, written_marks}
-use Rattle.st_recover.specs.Opens.{IsDamageOf, last_number, opens}
-use Rattle.st_recover.specs.declared.fault.OpenFault.{OpenFault}
-use Rattle.st_recover.specs.declared.fault.OpenFault.TheVariants.{Damaged as DamagedFault, DiskFault as DiskFailed, OutOfMemory}
+use Rattle.log_recover.specs.Contents.{contents_of, known_of, written_marks}
+use Rattle.log_recover.specs.Opens.{IsDamageOf, last_number, opens}
+use Rattle.log_recover.specs.declared.fault.OpenFault.{OpenFault}
+use Rattle.log_recover.specs.declared.fault.OpenFault.TheVariants.{Damaged as DamagedFault, DiskFault as DiskFailed, OutOfMemory}
 use Rattle.st_wal.specs.declared.logged.Logged.{Logged}
 use Rattle.cmd_text.specs.declared.script.Numbered.{Numbered}
-use Rattle.ingest_app.specs.Client.{EndsAnswered, IsAnswered, IsRun, opening_of}
+use Rattle.ingest_app.specs.Client.{EndsAnswered, AreCommandsAnswered, IsRun, opening_of}
 use Rattle.ingest_app.specs.Crash.{state_after}
 use Rattle.ingest_app.specs.Run.{EndsOpening, EndsScript, StaysAsRead}
 use Rattle.ingest_app.specs.declared.status.Status.{Status}
@@ -55,9 +55,9 @@ at_first ops calls image is =
 
 -- ---- the run
 
-module _ (name : List ℕ) (commands : List Numbered) (text : List ℕ) (before mid after : Told) (ops : List Logged) (p : Passes before mid) (q : Passes mid after) (read : IsHonest before → opens before.reads ≡ Ok ops)
+module _ (name : List ℕ) (commands : List Numbered) (text : List ℕ) (before mid after : DiskTold) (ops : List Logged) (p : Passes before mid) (q : Passes mid after) (read : IsHonest before → opens before.reads ≡ Ok ops)
     (stays : IsHonest before → Leaves (λ image. before.now image ⊎ (opens image ≡ opens before.reads)) before mid) where
-  is_run : (failed : Bool) → IsAnswered name commands text (opening_of ops) mid after failed → IsRun name commands text before after failed
+  is_run : (failed : Bool) → AreCommandsAnswered name commands text (opening_of ops) mid after failed → IsRun name commands text before after failed
   is_run failed a = record {
     ops = ops;
     read = read;
@@ -87,7 +87,7 @@ module _ (name : List ℕ) (commands : List Numbered) (text : List ℕ) (before 
 
 -- ---- an opening that failed
 
-pub opening_ends : (name : List ℕ) (commands : List Numbered) (before after : Told) (fault : OpenFault) (status : Status) (text : List ℕ) → (IsHonest before → IsDamageOf (opens before.reads) fault) → StaysAsRead before after → EndsOpening fault status text
+pub opening_ends : (name : List ℕ) (commands : List Numbered) (before after : DiskTold) (fault : OpenFault) (status : Status) (text : List ℕ) → (IsHonest before → IsDamageOf (opens before.reads) fault) → StaysAsRead before after → EndsOpening fault status text
     → EndsScript commands name before after status text
 opening_ends name commands before after (DamagedFault file at) status text damage stays h =
     subst (λ (s : Status). EndsScript commands name before after s text) (sym h.0) (record { damage = record { file = file; at = at }; found = damage; printed = h.1; stays = stays })

@@ -7,7 +7,7 @@ use Rattle.st_model.specs.declared.reply.Reply.TheVariants.{Refused}
 use Rattle.st_model.specs.declared.state.ModelState.{ModelState}
 use Rattle.st_model.specs.History.{after_call, state_at}
 use Rattle.st_model.specs.Legal.{changes_in}
-use Rattle.st_engine.specs.Engine.{OpensTo}
+use Rattle.log_engine.specs.Engine.{OpensTo}
 
 -- the state after the first changes of the client's calls
 abbrev pub state_after : ModelState → List Call → ℕ → ModelState

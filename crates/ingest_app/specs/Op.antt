@@ -6,7 +6,7 @@ use Rattle.st_model.specs.declared.refusal.Refusal.{Refusal}
 use Rattle.st_model.specs.declared.refusal.Refusal.TheVariants.{Stopped, UnknownFamily, NumbersSpent, StoreFull, DiskFault, OutOfMemory}
 use Rattle.st_model.specs.declared.reply.Reply.{Reply}
 use Rattle.st_model.specs.declared.reply.Reply.TheVariants.{Written, Found, Nothing, Refused}
-use Rattle.st_engine.specs.Op.{IsWrite, strange_names, strangers}
+use Rattle.log_engine.specs.Op.{IsWrite, strange_names, strangers}
 
 -- the first family of a command that isn't `default`
 abbrev pub stranger_of : Command → Option (List ℕ)
@@ -30,6 +30,6 @@ refused_family Nothing = None
 refused_family (Refused refusal) = refused_name refusal
 
 -- the command is within the limits of a write
-abbrev pub Fits : Command → Type 0
-Fits (Write batch) = IsWrite batch.ops
-Fits (Get family key) = Unit {0}
+abbrev pub FitsLimits : Command → Type 0
+FitsLimits (Write batch) = IsWrite batch.ops
+FitsLimits (Get family key) = Unit {0}

@@ -5,10 +5,10 @@ use Rattle.std.specs.Fmt.{decimal}
 use Rattle.st_base.specs.Bytes.{same}
 use Rattle.st_base.specs.Names.{is_name}
 use Rattle.st_base.specs.Count.{Rose}
-use Rattle.st_device.specs.Disk.{Told, IsHonest, Leaves}
-use Rattle.st_recover.specs.Opens.{opens, Damage}
-use Rattle.st_recover.specs.declared.fault.OpenFault.{OpenFault}
-use Rattle.st_recover.specs.declared.fault.OpenFault.TheVariants as opening
+use Rattle.st_device.specs.Disk.{DiskTold, IsHonest, Leaves}
+use Rattle.log_recover.specs.Opens.{opens, Damage}
+use Rattle.log_recover.specs.declared.fault.OpenFault.{OpenFault}
+use Rattle.log_recover.specs.declared.fault.OpenFault.TheVariants as opening
 use Rattle.st_stream.specs.Inputs.{InputsTold}
 use Rattle.st_stream.specs.Sink.{SinkTold, AppendsPrefix}
 use Rattle.st_wal.specs.declared.logged.Logged.{Logged}
@@ -42,16 +42,16 @@ damaged_text file at = codes "damaged " ++ decimal file ++ codes " " ++ decimal 
 -- ---- what is to be written
 
 -- each image of a crash within an opening that failed is one that a crash before it could leave, or has what was read
-abbrev pub StaysAsRead : Told → Told → Type 0
+abbrev pub StaysAsRead : DiskTold → DiskTold → Type 0
 StaysAsRead before after = IsHonest before → Leaves (λ image. before.now image ⊎ (opens image ≡ opens before.reads)) before after
 
 -- the opening of the disk failed
-pub record IsUnopened (text : List ℕ) (before after : Told) : Type 0 where
+pub record IsUnopened (text : List ℕ) (before after : DiskTold) : Type 0 where
   pub printed : text ≡ disk_text
   pub stays : StaysAsRead before after
 
 -- the disk's store is damaged, which the text names
-pub record IsDamagedStore (text : List ℕ) (before after : Told) : Type 0 where
+pub record IsDamagedStore (text : List ℕ) (before after : DiskTold) : Type 0 where
   pub damage : Damage
   pub found : IsHonest before → opens before.reads ≡ Err damage
   pub printed : text ≡ damaged_text damage.file damage.at
@@ -64,14 +64,14 @@ EndsOpening opening.DiskFault status text = (status ≡ DiskFault) × (text ≡ 
 EndsOpening opening.OutOfMemory status text = ⊥
 
 -- The commands of a client may end with this status over the disk, if the sink takes this text.
-abbrev pub EndsScript : List Numbered → List ℕ → Told → Told → Status → List ℕ → Type 0
+abbrev pub EndsScript : List Numbered → List ℕ → DiskTold → DiskTold → Status → List ℕ → Type 0
 EndsScript commands name before after Done text = IsRun name commands text before after false
 EndsScript commands name before after DiskFault text = IsRun name commands text before after true ⊎ IsUnopened text before after
 EndsScript commands name before after Damaged text = IsDamagedStore text before after
 EndsScript commands name before after other text = ⊥
 
 -- the client's file has commands, and they end so
-pub record IsScript (file : Option (List ℕ)) (name : List ℕ) (before after : Told) (status : Status) (text : List ℕ) : Type 0 where
+pub record IsScript (file : Option (List ℕ)) (name : List ℕ) (before after : DiskTold) (status : Status) (text : List ℕ) : Type 0 where
   pub commands : List Numbered
   pub read : client_script file ≡ Ok commands
   pub ends : EndsScript commands name before after status text
@@ -83,7 +83,7 @@ pub record IsFaulty (file : Option (List ℕ)) (name text : List ℕ) : Type 0 w
   pub printed : text ≡ script_text name line
 
 -- The run of a client whose file this is may end with this status, if the sink takes this text.
-abbrev pub EndsClient : Option (List ℕ) → List ℕ → Told → Told → Status → List ℕ → Type 0
+abbrev pub EndsClient : Option (List ℕ) → List ℕ → DiskTold → DiskTold → Status → List ℕ → Type 0
 EndsClient file name before after Script text = IsFaulty file name text
 EndsClient file name before after status text = IsScript file name before after status text
 
@@ -96,12 +96,12 @@ IsOfFile Script = ⊤
 IsOfFile other = ⊥
 
 -- the disk failed in this run
-abbrev pub Faulted : Told → Told → Type 0
+abbrev pub Faulted : DiskTold → DiskTold → Type 0
 Faulted before after = Rose before.faults after.faults
 
 -- The run of a client of this name may end with this status, if the sink takes this text. Where the inputs don't tell
 -- their bytes, nothing is said of the file.
-abbrev pub EndsNamed : List ℕ → InputsTold → InputsTold → Told → Told → Status → List ℕ → Type 0
+abbrev pub EndsNamed : List ℕ → InputsTold → InputsTold → DiskTold → DiskTold → Status → List ℕ → Type 0
 EndsNamed name before after disk left Done text = IsTrue before.known → EndsClient (before.file name) name disk left Done text
 EndsNamed name before after disk left InputFault text = Rose before.faults after.faults × (text ≡ input_text name)
 EndsNamed name before after disk left DiskFault text = Faulted disk left × (IsTrue before.known → EndsClient (before.file name) name disk left DiskFault text)
@@ -110,7 +110,7 @@ EndsNamed name before after disk left Damaged text = IsTrue before.known → End
 EndsNamed name before after disk left other text = ⊥
 
 -- A run of these words may end with this status, if the sink takes this text.
-abbrev pub Ends : List (List ℕ) → InputsTold → InputsTold → Told → Told → Status → List ℕ → Type 0
+abbrev pub Ends : List (List ℕ) → InputsTold → InputsTold → DiskTold → DiskTold → Status → List ℕ → Type 0
 Ends words before after disk left Memory text = text ≡ []
 Ends words before after disk left NotYet text = (client_of words ≡ None) × (text ≡ not_yet_text)
 Ends words before after disk left status text = IsSomeAnd (client_of words) (λ name. EndsNamed name before after disk left status text)
@@ -136,7 +136,7 @@ EndsWriting ends before after SinkFault = Rose before.faults after.faults × ((s
 EndsWriting ends before after status = (text : List ℕ) × ends status text × Writes before after text
 
 -- the run of these words ended with this status and wrote its text, or a part of it
-abbrev pub Ended : List (List ℕ) → InputsTold → InputsTold → Told → Told → SinkTold → SinkTold → Status → Type 0
+abbrev pub Ended : List (List ℕ) → InputsTold → InputsTold → DiskTold → DiskTold → SinkTold → SinkTold → Status → Type 0
 Ended words before after disk left sink_before sink_after status = EndsWriting (Ends words before after disk left) sink_before sink_after status
 
 -- ---- what a client's file and the disk are
@@ -150,11 +150,11 @@ abbrev pub HasFault : List (List ℕ) → InputsTold → Type 0
 HasFault words inputs = IsSomeAnd (client_of words) (λ name. (line : ℕ) × (client_script (inputs.file name) ≡ Err line))
 
 -- the disk tells what it reads, and this is a store
-abbrev pub HasStore : Told → Type 0
+abbrev pub HasStore : DiskTold → Type 0
 HasStore disk = IsHonest disk × ((ops : List Logged) × (opens disk.reads ≡ Ok ops))
 
 -- the disk reads a damaged store
-abbrev pub IsDamaged : Told → Type 0
+abbrev pub IsDamaged : DiskTold → Type 0
 IsDamaged disk = (damage : Damage) × (opens disk.reads ≡ Err damage)
 
 -- the statuses with which the disk comes back as it was

@@ -2,17 +2,17 @@
 ghost use Rattle.std.specs.Prelude.{◌≡◌, ◌⊎◌, IfOk, OnOk, None};
 ghost use Rattle.st_base.specs.Count.{Rose};
 ghost use Rattle.st_device.specs.Disk.{IsHonest, Passes};
-ghost use Rattle.st_engine.specs.Engine.{IsTied};
-ghost use Rattle.st_engine.specs.Op.{IsWrite};
-ghost use Rattle.st_engine.specs.Store.{Stands};
+ghost use Rattle.log_engine.specs.Engine.{IsTied};
+ghost use Rattle.log_engine.specs.Op.{IsWrite};
+ghost use Rattle.log_engine.specs.MarkStore.{StandsForState};
 ghost use Rattle.st_model.specs.declared.state.ModelState.{ModelState};
 ghost use Rattle.st_model.specs.Answer.{get_answer};
-ghost use Rattle.ingest_app.specs.Answer.{Steps, call_of};
-ghost use Rattle.ingest_app.specs.Op.{Fits};
+ghost use Rattle.ingest_app.specs.Answer.{EngineSteps, answered_call};
+ghost use Rattle.ingest_app.specs.Op.{FitsLimits};
 
 use st_base::{Family, Key};
 use st_device::Disk;
-use st_engine::Engine;
+use log_engine::Engine;
 use st_model::{Batch, Command, Refusal, Reply};
 use std::alloc::AllocError;
 
@@ -38,9 +38,9 @@ fn shown(refusal: Refusal) -> Result<Refusal, AllocError>
 fn answer_write<D: Disk>(engine: &mut Engine<D>, batch: &Batch) -> Result<Answer, AllocError>
     requires limits { IsWrite batch.now.ops }
     requires tied { IsHonest (D.tells engine.old.disk) → engine.old.stopped ≡ None → IsTied engine.old.wal engine.old.store (D.tells engine.old.disk) }
-    ensures steps { IfOk result (λ answer. (state : ModelState) → Stands engine.old.store state → Steps engine.old.store engine.new.store engine.old.stopped engine.new.stopped (D.tells engine.old.disk) (D.tells engine.new.disk) state (call_of (Command.Write batch.now) answer)) }
+    ensures steps { IfOk result (λ answer. (state : ModelState) → StandsForState engine.old.store state → EngineSteps engine.old.store engine.new.store engine.old.stopped engine.new.stopped (D.tells engine.old.disk) (D.tells engine.new.disk) state (answered_call (Command.Write batch.now) answer)) }
     ensures tied { IsHonest (D.tells engine.old.disk) → engine.new.stopped ≡ None → IsTied engine.new.wal engine.new.store (D.tells engine.new.disk) }
-    ensures still { (engine.old.stopped ≡ None) ⊎ (engine.new.disk ≡ engine.old.disk) }
+    ensures untouched { (engine.old.stopped ≡ None) ⊎ (engine.new.disk ≡ engine.old.disk) }
     ensures cause { (engine.new.stopped ≡ engine.old.stopped) ⊎ Rose (D.tells engine.old.disk).faults (D.tells engine.new.disk).faults }
     ensures options { (engine.new.store.behind ≡ engine.old.store.behind) × (engine.new.store.capacity ≡ engine.old.store.capacity) }
     ensures passes { Passes (D.tells engine.old.disk) (D.tells engine.new.disk) }
@@ -59,7 +59,7 @@ fn answer_write<D: Disk>(engine: &mut Engine<D>, batch: &Batch) -> Result<Answer
 
 // Answers a read.
 fn answer_get<D: Disk>(engine: &Engine<D>, family: &Family, key: &Key) -> Result<Answer, AllocError>
-    ensures { IfOk result (λ answer. (state : ModelState) → Stands engine.now.store state → (answer.place ≡ state.place) × (answer.reply ≡ get_answer state state.last family.now key.now)) }
+    ensures { IfOk result (λ answer. (state : ModelState) → StandsForState engine.now.store state → (answer.place ≡ state.place) × (answer.reply ≡ get_answer state state.last family.now key.now)) }
 {
     let place = engine.place();
     match engine.read_now(family, key) {
@@ -83,11 +83,11 @@ pub fn answer_command<D: Disk>(
     engine: &mut Engine<D>,
     command: &Command,
 ) -> Result<Answer, AllocError>
-    requires limits { Fits command.now }
+    requires limits { FitsLimits command.now }
     requires tied { IsHonest (D.tells engine.old.disk) → engine.old.stopped ≡ None → IsTied engine.old.wal engine.old.store (D.tells engine.old.disk) }
-    ensures steps { IfOk result (λ answer. (state : ModelState) → Stands engine.old.store state → Steps engine.old.store engine.new.store engine.old.stopped engine.new.stopped (D.tells engine.old.disk) (D.tells engine.new.disk) state (call_of command.now answer)) }
+    ensures steps { IfOk result (λ answer. (state : ModelState) → StandsForState engine.old.store state → EngineSteps engine.old.store engine.new.store engine.old.stopped engine.new.stopped (D.tells engine.old.disk) (D.tells engine.new.disk) state (answered_call command.now answer)) }
     ensures tied { IsHonest (D.tells engine.old.disk) → engine.new.stopped ≡ None → IsTied engine.new.wal engine.new.store (D.tells engine.new.disk) }
-    ensures still { (engine.old.stopped ≡ None) ⊎ (engine.new.disk ≡ engine.old.disk) }
+    ensures untouched { (engine.old.stopped ≡ None) ⊎ (engine.new.disk ≡ engine.old.disk) }
     ensures cause { (engine.new.stopped ≡ engine.old.stopped) ⊎ Rose (D.tells engine.old.disk).faults (D.tells engine.new.disk).faults }
     ensures options { (engine.new.store.behind ≡ engine.old.store.behind) × (engine.new.store.capacity ≡ engine.old.store.capacity) }
     ensures passes { Passes (D.tells engine.old.disk) (D.tells engine.new.disk) }

@@ -2,7 +2,7 @@
 ghost use Rattle.std.specs.Prelude.{◌≡◌, ◌≤◌, ◌<◌, ◌++◌, IsTrue, length, IfOk, OnOk};
 ghost use Rattle.std.specs.Fmt.{decimal};
 ghost use Rattle.st_base.specs.declared.entry.Mark.TheVariants.{Put, Gone};
-ghost use Rattle.cmd_text.specs.Build.{GivesMore, build_of, is_within, some_entries, unnumbered, with_build_line, with_entry};
+ghost use Rattle.cmd_text.specs.Build.{GivesMore, build_of, is_within, some_entries, unnumbered, with_build_line, with_line_entry};
 ghost use Rattle.ingest_app.specs.Convert.{EndsBytes, GivesTable, GivesWriter, build_cause, fault_at, fit_table, unfinished};
 
 use crate::conversions::{Conversion, refused};
@@ -33,7 +33,7 @@ fn write_put(
     value: &Value,
 ) -> Result<(), BuildFault>
     requires { IsTrue (is_within (unnumbered key.now (Put value.now))) }
-    ensures { GivesMore result writer.new (with_entry fit_table writer.old number (unnumbered key.now (Put value.now))) }
+    ensures { GivesMore result writer.new (with_line_entry fit_table writer.old number (unnumbered key.now (Put value.now))) }
 {
     match writer.put(alloc, key, value) {
         Ok(()) => Ok(()),
@@ -49,7 +49,7 @@ fn write_tombstone(
     key: &Key,
 ) -> Result<(), BuildFault>
     requires { IsTrue (is_within (unnumbered key.now Gone)) }
-    ensures { GivesMore result writer.new (with_entry fit_table writer.old number (unnumbered key.now Gone)) }
+    ensures { GivesMore result writer.new (with_line_entry fit_table writer.old number (unnumbered key.now Gone)) }
 {
     match writer.delete(alloc, key) {
         Ok(()) => Ok(()),
@@ -66,7 +66,7 @@ fn write_entry(
     mark: &Mark,
 ) -> Result<(), BuildFault>
     requires { IsTrue (is_within (unnumbered key.now mark.now)) }
-    ensures { GivesMore result writer.new (with_entry fit_table writer.old number (unnumbered key.now mark.now)) }
+    ensures { GivesMore result writer.new (with_line_entry fit_table writer.old number (unnumbered key.now mark.now)) }
 {
     match mark {
         Mark::Put(value) => write_put(alloc, writer, number, key, value),

@@ -3,18 +3,18 @@ ghost use Rattle.std.specs.Prelude.{◌≡◌, ◌⊎◌, [], IfOk, OnOk, None, 
 ghost use Rattle.std.specs.List.{AllByRecursion as Each};
 ghost use Rattle.st_base.specs.Count.{Rose};
 ghost use Rattle.st_device.specs.Disk.{IsHonest, Passes};
-ghost use Rattle.st_engine.specs.Engine.{IsTied};
-ghost use Rattle.st_engine.specs.Store.{Stands};
+ghost use Rattle.log_engine.specs.Engine.{IsTied};
+ghost use Rattle.log_engine.specs.MarkStore.{StandsForState};
 ghost use Rattle.st_model.specs.declared.state.ModelState.{ModelState};
-ghost use Rattle.ingest_app.specs.Client.{IsAnswered, transcript};
+ghost use Rattle.ingest_app.specs.Client.{AreCommandsAnswered, transcript};
 ghost use Rattle.ingest_app.specs.Answer.{Prints};
-ghost use Rattle.ingest_app.specs.Op.{Fits};
+ghost use Rattle.ingest_app.specs.Op.{FitsLimits};
 
 use crate::answer::answer_command;
 use cmd_text::{Script, push_reply};
 use st_base::Bytes;
 use st_device::Disk;
-use st_engine::Engine;
+use log_engine::Engine;
 use st_model::Command;
 use std::alloc::{AllocError, Global};
 
@@ -37,11 +37,11 @@ fn print_answer<D: Disk>(
     command: &Command,
     text: &mut Bytes,
 ) -> Result<(), AllocError>
-    requires limits { Fits command.now }
+    requires limits { FitsLimits command.now }
     requires tied { IsHonest (D.tells engine.old.disk) → engine.old.stopped ≡ None → IsTied engine.old.wal engine.old.store (D.tells engine.old.disk) }
     ensures printed { OnOk result (Prints engine.old.store engine.new.store engine.old.stopped engine.new.stopped (D.tells engine.old.disk) (D.tells engine.new.disk) command.now text.old text.new) }
     ensures tied { IsHonest (D.tells engine.old.disk) → engine.new.stopped ≡ None → IsTied engine.new.wal engine.new.store (D.tells engine.new.disk) }
-    ensures still { (engine.old.stopped ≡ None) ⊎ (engine.new.disk ≡ engine.old.disk) }
+    ensures untouched { (engine.old.stopped ≡ None) ⊎ (engine.new.disk ≡ engine.old.disk) }
     ensures cause { (engine.new.stopped ≡ engine.old.stopped) ⊎ Rose (D.tells engine.old.disk).faults (D.tells engine.new.disk).faults }
     ensures options { (engine.new.store.behind ≡ engine.old.store.behind) × (engine.new.store.capacity ≡ engine.old.store.capacity) }
     ensures passes { Passes (D.tells engine.old.disk) (D.tells engine.new.disk) }
@@ -57,11 +57,11 @@ pub fn answer_script<D: Disk>(
     script: &Script,
     engine: &mut Engine<D>,
 ) -> Result<Bytes, AllocError>
-    requires limits { Each (λ numbered. Fits numbered.command) script.now.commands }
+    requires limits { Each (λ numbered. FitsLimits numbered.command) script.now.commands }
     requires tied { IsHonest (D.tells engine.old.disk) → IsTied engine.old.wal engine.old.store (D.tells engine.old.disk) }
     requires running { engine.old.stopped ≡ None }
     requires capacity { engine.old.store.capacity ≡ CAPACITY }
-    ensures answered { IfOk result (λ text. (opening : ModelState) → Stands engine.old.store opening → opening.place ≡ 0 → IsAnswered name.now script.now.commands text opening (D.tells engine.old.disk) (D.tells engine.new.disk) (is_some engine.new.stopped)) }
+    ensures answered { IfOk result (λ text. (opening : ModelState) → StandsForState engine.old.store opening → opening.place ≡ 0 → AreCommandsAnswered name.now script.now.commands text opening (D.tells engine.old.disk) (D.tells engine.new.disk) (is_some engine.new.stopped)) }
     ensures cause { (engine.new.stopped ≡ None) ⊎ Rose (D.tells engine.old.disk).faults (D.tells engine.new.disk).faults }
     ensures passes { Passes (D.tells engine.old.disk) (D.tells engine.new.disk) }
 {

@@ -4,21 +4,21 @@ ghost use Rattle.std.specs.Option.{option_copied};
 ghost use Rattle.st_base.specs.Names.{is_name};
 ghost use Rattle.std.specs.List.{AllByRecursion as Each};
 ghost use Rattle.st_device.specs.Disk.{IsHonest, Passes};
-ghost use Rattle.st_stream.specs.Inputs.{Stay};
-ghost use Rattle.st_engine.specs.Engine.{IsTied};
-ghost use Rattle.st_engine.specs.Store.{Stands};
+ghost use Rattle.st_stream.specs.Inputs.{InputsUntouched};
+ghost use Rattle.log_engine.specs.Engine.{IsTied};
+ghost use Rattle.log_engine.specs.MarkStore.{StandsForState};
 ghost use Rattle.st_model.specs.declared.state.ModelState.{ModelState};
 ghost use Rattle.ingest_app.specs.Client.{EndsAnswered};
-ghost use Rattle.ingest_app.specs.Op.{Fits};
+ghost use Rattle.ingest_app.specs.Op.{FitsLimits};
 ghost use Rattle.ingest_app.specs.Run.{client_of, Ends, EndsNamed, EndsClient, EndsOpening, EndsScript, Faulted, IsBeforeDisk, IsOfFile, damaged_text, input_text, script_text, not_yet_text};
-ghost use Rattle.st_stream.specs.FileRead.{file_read, IsWithin};
+ghost use Rattle.st_stream.specs.FileRead.{file_read, IsFileWithin};
 
 use crate::client::{CAPACITY, answer_script};
 use crate::status::Status;
 use cmd_text::{Script, ScriptFault, read_script};
 use st_base::{Bytes, CLIENT_FILE_BYTES, is_name};
 use st_device::Disk;
-use st_engine::{Engine, OpenFault, Options};
+use log_engine::{Engine, OpenFault, Options};
 use st_stream::{FileRead, Inputs, ReadFault, read_file};
 use std::alloc::{AllocError, Global};
 
@@ -88,11 +88,11 @@ fn run_engine<D: Disk>(
     script: &Script,
     mut engine: Engine<D>,
 ) -> (Result<Outcome, AllocError>, D)
-    requires limits { Each (λ numbered. Fits numbered.command) script.now.commands }
+    requires limits { Each (λ numbered. FitsLimits numbered.command) script.now.commands }
     requires tied { IsHonest (D.tells engine.disk) → IsTied engine.wal engine.store (D.tells engine.disk) }
     requires running { engine.stopped ≡ None }
     requires capacity { engine.store.capacity ≡ CAPACITY }
-    ensures ends { IfOk result.0 (λ outcome. (opening : ModelState) → Stands engine.store opening → opening.place ≡ 0 → EndsAnswered name.now script.now.commands opening (D.tells engine.disk) (D.tells result.1) outcome.status outcome.text) }
+    ensures ends { IfOk result.0 (λ outcome. (opening : ModelState) → StandsForState engine.store opening → opening.place ≡ 0 → EndsAnswered name.now script.now.commands opening (D.tells engine.disk) (D.tells result.1) outcome.status outcome.text) }
     ensures fault { IfOk result.0 (λ outcome. outcome.status ≡ Status.DiskFault → Faulted (D.tells engine.disk) (D.tells result.1)) }
     ensures passes { Passes (D.tells engine.disk) (D.tells result.1) }
 {
@@ -132,7 +132,7 @@ fn run_script<D: Disk>(
     script: &Script,
     disk: D,
 ) -> (Result<Outcome, AllocError>, D)
-    requires { Each (λ numbered. Fits numbered.command) script.now.commands }
+    requires { Each (λ numbered. FitsLimits numbered.command) script.now.commands }
     ensures ends { IfOk result.0 (λ outcome. EndsScript script.now.commands name.now (D.tells disk) (D.tells result.1) outcome.status outcome.text) }
     ensures fault { IfOk result.0 (λ outcome. outcome.status ≡ Status.DiskFault → Faulted (D.tells disk) (D.tells result.1)) }
     ensures passes { Passes (D.tells disk) (D.tells result.1) }
@@ -158,7 +158,7 @@ fn run_text<D: Disk>(
     ensures status { IfOk result.0 (λ outcome. IsOfFile outcome.status) }
     ensures ends { IfOk result.0 (λ outcome. EndsClient (Some text.now) name.now (D.tells disk) (D.tells result.1) outcome.status outcome.text) }
     ensures fault { IfOk result.0 (λ outcome. outcome.status ≡ Status.DiskFault → Faulted (D.tells disk) (D.tells result.1)) }
-    ensures same { IfOk result.0 (λ outcome. IsBeforeDisk outcome.status → result.1 ≡ disk) }
+    ensures disk_untouched { IfOk result.0 (λ outcome. IsBeforeDisk outcome.status → result.1 ≡ disk) }
     ensures passes { Passes (D.tells disk) (D.tells result.1) }
 {
     match read_script(alloc, text) {
@@ -185,11 +185,11 @@ fn run_file<D: Disk>(
     read: FileRead,
     disk: D,
 ) -> (Result<Outcome, AllocError>, D)
-    requires { IsWithin CLIENT_FILE_BYTES read }
+    requires { IsFileWithin CLIENT_FILE_BYTES read }
     ensures status { IfOk result.0 (λ outcome. IsOfFile outcome.status) }
     ensures ends { IfOk result.0 (λ outcome. (file : Option (List ℕ)) → read ≡ file_read CLIENT_FILE_BYTES file → EndsClient file name.now (D.tells disk) (D.tells result.1) outcome.status outcome.text) }
     ensures fault { IfOk result.0 (λ outcome. outcome.status ≡ Status.DiskFault → Faulted (D.tells disk) (D.tells result.1)) }
-    ensures same { IfOk result.0 (λ outcome. IsBeforeDisk outcome.status → result.1 ≡ disk) }
+    ensures disk_untouched { IfOk result.0 (λ outcome. IsBeforeDisk outcome.status → result.1 ≡ disk) }
     ensures passes { Passes (D.tells disk) (D.tells result.1) }
 {
     match read {
@@ -218,9 +218,9 @@ fn run_client<D: Disk, I: Inputs>(
 ) -> (Result<Outcome, AllocError>, D)
     requires { IsTrue (is_name name.now) }
     ensures ends { IfOk result.0 (λ outcome. EndsNamed name.now (I.tells inputs.old) (I.tells inputs.new) (D.tells disk) (D.tells result.1) outcome.status outcome.text) }
-    ensures same { IfOk result.0 (λ outcome. IsBeforeDisk outcome.status → result.1 ≡ disk) }
+    ensures disk_untouched { IfOk result.0 (λ outcome. IsBeforeDisk outcome.status → result.1 ≡ disk) }
     ensures passes { Passes (D.tells disk) (D.tells result.1) }
-    ensures stay { Stay (I.tells inputs.old) (I.tells inputs.new) }
+    ensures inputs_untouched { InputsUntouched (I.tells inputs.old) (I.tells inputs.new) }
 {
     match read_file(alloc, inputs, name, CLIENT_FILE_BYTES) {
         Ok(read) => run_file(alloc, name, read, disk),
@@ -247,9 +247,9 @@ pub fn outcome_of<D: Disk, I: Inputs>(
     inputs: &mut I,
 ) -> (Result<Outcome, AllocError>, D)
     ensures ends { IfOk result.0 (λ outcome. Ends (map string_bytes words.now) (I.tells inputs.old) (I.tells inputs.new) (D.tells disk) (D.tells result.1) outcome.status outcome.text) }
-    ensures same { IfOk result.0 (λ outcome. IsBeforeDisk outcome.status → result.1 ≡ disk) }
+    ensures disk_untouched { IfOk result.0 (λ outcome. IsBeforeDisk outcome.status → result.1 ≡ disk) }
     ensures passes { Passes (D.tells disk) (D.tells result.1) }
-    ensures stay { Stay (I.tells inputs.old) (I.tells inputs.new) }
+    ensures inputs_untouched { InputsUntouched (I.tells inputs.old) (I.tells inputs.new) }
 {
     match client_of(words) {
         Some(name) => run_client(alloc, name, disk, inputs),

@@ -19,8 +19,8 @@ fn text_of<T: Rows>(alloc: Global, rows: &T) -> Result<Bytes, AllocError>
 {
     let mut scratch = Scratch::new(alloc)?;
     let mut text = Bytes::new(alloc);
-    for place in 0..rows.len() {
-        push_build_line(&mut text, rows.at(place, &mut scratch))?;
+    for index in 0..rows.len() {
+        push_build_line(&mut text, rows.at(index, &mut scratch))?;
     }
     Ok(text)
 }

@@ -2,7 +2,7 @@
 ghost use Rattle.std.specs.Prelude.{◌≡◌, ◌⊎◌, [], List, ℕ, None, Ok, Err, IsTrue, IsOk, IsSome, IsSomeAnd, MatchOption, map, String, string_bytes};
 ghost use Rattle.st_base.specs.Count.{Rose};
 ghost use Rattle.st_device.specs.Disk.{IsHonest, Passes};
-ghost use Rattle.st_stream.specs.Inputs.{Stay};
+ghost use Rattle.st_stream.specs.Inputs.{InputsUntouched};
 ghost use Rattle.ingest_app.specs.Client.{client_script};
 ghost use Rattle.ingest_app.specs.Convert.{Converted, IsConvertible, IsUnconvertible, conversion_of};
 ghost use Rattle.ingest_app.specs.Run.{client_of, Ended, Faulted, IsBeforeDisk, IsDamaged, Writes, HasScript, HasFault, HasStore};
@@ -24,9 +24,9 @@ fn run_words<D: Disk, I: Inputs, K: Sink>(
     sink: &mut K,
 ) -> (Status, D)
     ensures ended { Ended (map string_bytes words.now) (I.tells inputs.old) (I.tells inputs.new) (D.tells disk) (D.tells result.1) (K.tells sink.old) (K.tells sink.new) result.0 }
-    ensures same { IsBeforeDisk result.0 → result.1 ≡ disk }
+    ensures disk_untouched { IsBeforeDisk result.0 → result.1 ≡ disk }
     ensures passes { Passes (D.tells disk) (D.tells result.1) }
-    ensures stay { Stay (I.tells inputs.old) (I.tells inputs.new) }
+    ensures inputs_untouched { InputsUntouched (I.tells inputs.old) (I.tells inputs.new) }
 {
     let (outcome, disk) = outcome_of(alloc, words, disk, inputs);
     (write_outcome(sink, outcome), disk)
@@ -42,11 +42,11 @@ fn run_form<D: Disk, I: Inputs, S: Source, K: Sink>(
     sink: &mut K,
 ) -> (Status, D)
     ensures ended { MatchOption (conversion_of (map string_bytes words.now)) (Ended (map string_bytes words.now) (I.tells inputs.old) (I.tells inputs.new) (D.tells disk) (D.tells result.1) (K.tells sink.old) (K.tells sink.new) result.0) (λ form. Converted form (S.tells source.old) (S.tells source.new) (K.tells sink.old) (K.tells sink.new) result.0) }
-    ensures stay { Stay (I.tells inputs.old) (I.tells inputs.new) }
+    ensures inputs_untouched { InputsUntouched (I.tells inputs.old) (I.tells inputs.new) }
     ensures passes { Passes (D.tells disk) (D.tells result.1) }
-    ensures same { IsBeforeDisk result.0 → result.1 ≡ disk }
-    ensures same_conversion { IsSome (conversion_of (map string_bytes words.now)) → (result.1 ≡ disk) × (inputs.new ≡ inputs.old) }
-    ensures same_client { conversion_of (map string_bytes words.now) ≡ None → source.new ≡ source.old }
+    ensures disk_untouched { IsBeforeDisk result.0 → result.1 ≡ disk }
+    ensures untouched_by_conversion { IsSome (conversion_of (map string_bytes words.now)) → (result.1 ≡ disk) × (inputs.new ≡ inputs.old) }
+    ensures untouched_by_client { conversion_of (map string_bytes words.now) ≡ None → source.new ≡ source.old }
 {
     match conversion_of(words) {
         Some(_) => (convert(alloc, words, source, sink), disk),
@@ -94,11 +94,11 @@ pub fn run<D: Disk, I: Inputs, S: Source, K: Sink>(
 
     // The input files stay, the counts don't fall, and the disk passes on the law of its moments. Words that aren't the
     // form, a client file that isn't read or is no script, and a conversion leave the disk as it was.
-    ensures stay { Stay (I.tells inputs.old) (I.tells inputs.new) }
+    ensures inputs_untouched { InputsUntouched (I.tells inputs.old) (I.tells inputs.new) }
     ensures passes { Passes (D.tells disk) (D.tells result.1) }
-    ensures same { IsBeforeDisk result.0 → result.1 ≡ disk }
-    ensures same_conversion { IsSome (conversion_of (map string_bytes words.now)) → (result.1 ≡ disk) × (inputs.new ≡ inputs.old) }
-    ensures same_client { conversion_of (map string_bytes words.now) ≡ None → source.new ≡ source.old }
+    ensures disk_untouched { IsBeforeDisk result.0 → result.1 ≡ disk }
+    ensures untouched_by_conversion { IsSome (conversion_of (map string_bytes words.now)) → (result.1 ≡ disk) × (inputs.new ≡ inputs.old) }
+    ensures untouched_by_client { conversion_of (map string_bytes words.now) ≡ None → source.new ≡ source.old }
 {
     run_form(alloc, words, disk, inputs, source, sink)
 }

@@ -5,4 +5,4 @@ use Rattle.real_files.specs.declared.open_files.OpenFiles.{OpenFiles}
 
 -- the file is open, by this handle
 abbrev pub IsOpenBy : OpenFiles → ℕ → File → Type 0
-IsOpenBy files file handle = Contains files.places (Some (record { file = file; handle = handle }))
+IsOpenBy files file handle = Contains files.slots (Some (record { file = file; handle = handle }))

@@ -6,7 +6,7 @@ ghost use Rattle.st_device.specs.Disk.{greatest};
 /// The count after one more fault.
 pub fn raised(count: u64) -> u64
     ensures rose { Rose count result }
-    ensures kept { count ≤ result }
+    ensures no_less { count ≤ result }
 {
     count.saturating_add(1)
 }

@@ -16,7 +16,7 @@ struct Opened {
 #[derive(Drop)]
 pub struct OpenFiles {
     // Those that are taken come first.
-    places: [Option<Opened>; OPEN_FILES],
+    slots: [Option<Opened>; OPEN_FILES],
 }
 
 impl OpenFiles {
@@ -25,7 +25,7 @@ impl OpenFiles {
     /// None is open.
     pub fn new() -> OpenFiles {
         OpenFiles {
-            places: [
+            slots: [
                 None, None, None, None, None, None, None, None, None, None, None, None, None, None,
                 None, None,
             ],
@@ -33,18 +33,18 @@ impl OpenFiles {
     }
 
     // The place of a file.
-    fn place_of(&self, file: u64) -> Option<usize>
-        ensures { IfSome result (λ place. place < 16) }
+    fn slot_of(&self, file: u64) -> Option<usize>
+        ensures { IfSome result (λ slot. slot < 16) }
     {
-        self.places.iter().position(|place| matches!(place, Some(opened) if opened.file == file))
+        self.slots.iter().position(|slot| matches!(slot, Some(opened) if opened.file == file))
     }
 
     /// The file, if it is open.
     pub fn get(&self, file: u64) -> Option<&File>
         ensures { IfSome result (λ handle. IsOpenBy self.now file handle.now) }
     {
-        for place in &self.places {
-            match place {
+        for slot in &self.slots {
+            match slot {
                 Some(opened) if opened.file == file => return Some(&opened.handle),
                 _ => {}
             }
@@ -56,21 +56,21 @@ impl OpenFiles {
     pub fn keep(&mut self, file: u64, handle: File)
         ensures { IsOpenBy self.new file handle }
     {
-        let place = match self.places.iter().position(|place| place.is_none()) {
-            Some(place) => place,
+        let slot = match self.slots.iter().position(|slot| slot.is_none()) {
+            Some(slot) => slot,
             None => {
-                self.places.rotate_left(1);
+                self.slots.rotate_left(1);
                 OPEN_FILES - 1
             }
         };
-        self.places[place] = Some(Opened { file, handle });
+        self.slots[slot] = Some(Opened { file, handle });
     }
 
     /// Closes a file, if it is open.
     pub fn close(&mut self, file: u64) {
-        if let Some(place) = self.place_of(file) {
-            self.places[place] = None;
-            self.places[place..].rotate_left(1);
+        if let Some(slot) = self.slot_of(file) {
+            self.slots[slot] = None;
+            self.slots[slot..].rotate_left(1);
         }
     }
 }

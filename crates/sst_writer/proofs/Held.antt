@@ -10,12 +10,12 @@ use Rattle.st_base.specs.Bytes.{below, bytes_cmp}
 use Rattle.st_base.specs.Rows.{FitsMark, last_key}
 use Rattle.st_base.specs.declared.entry.Entry.{Entry}
 use Rattle.st_base.specs.declared.entry.Mark.{Mark}
-use Rattle.st_block.specs.Written.{added as added_to_block, written_block}
+use Rattle.st_block.specs.Written.{pair_added as added_to_block, written_block}
 use Rattle.st_table.specs.Entries.{is_behind, last_entry}
 use Rattle.st_table.specs.Footer.{greatest_size}
 use Rattle.st_table.specs.IsTable.{IsTable}
 use Rattle.st_table.specs.Table.{table_of}
-use Rattle.st_table.specs.Written.{Holds, MayBeTable, MayPut, Writer, added, finished, internal_key, stored, value_under, with_closed, with_open, written_table}
+use Rattle.st_table.specs.Written.{HoldsEntries, MayBeTable, MayPut, Writer, entry_added, finished_table, internal_key, stored, value_under, with_closed, with_open, written_table}
 use Rattle.st_table.specs.declared.kind.TableKind.{TableKind}
 use Rattle.st_table.specs.declared.kind.TableKind.TheVariants.{External}
 use Rattle.st_table.proofs.Behind.{order_more}
@@ -35,10 +35,10 @@ WrittenOpens = (kind : TableKind) (entries : List Entry) → MayBeTable kind ent
 -- ---- what is held
 
 -- the finished table of an external writer is the written one
-pub written_is : (w : Writer) (entries : List Entry) → w.kind ≡ External → Holds w entries → finished w ≡ written_table External entries
+pub written_is : (w : Writer) (entries : List Entry) → w.kind ≡ External → HoldsEntries w entries → finished_table w ≡ written_table External entries
 written_is w entries k h = table_written w entries h ∙ ap (λ (kind : TableKind). written_table kind entries) k
 
-pub held_is : WrittenOpens → (w : Writer) (entries : List Entry) → w.kind ≡ External → Holds w entries → MayBeTable External entries → length (finished w) ≤ greatest_size External → held w ≡ entries
+pub held_is : WrittenOpens → (w : Writer) (entries : List Entry) → w.kind ≡ External → HoldsEntries w entries → MayBeTable External entries → length (finished_table w) ≤ greatest_size External → held w ≡ entries
 unfolding held
 held_is opens w entries k h may fits =
     let is = written_is w entries k h in
@@ -55,16 +55,16 @@ none_short =
     let index = written_block 1 [] in
     omega (arith, table_length External 0 [] index, ending_short External 0 (length {A = ℕ} [] + length (stored index)) (record { offset = length {A = ℕ} []; size = length index }))
 
-pub none_held : WrittenOpens → (w : Writer) → w.kind ≡ External → Holds w [] → held w ≡ []
+pub none_held : WrittenOpens → (w : Writer) → w.kind ≡ External → HoldsEntries w [] → held w ≡ []
 none_held opens w k h =
     held_is opens w [] k h none_may (subst (λ (l : List ℕ). length l ≤ greatest_size External) (sym (written_is w [] k h)) none_short)
 
-pub none_is : WrittenOpens → (w : Writer) (last : List ℕ) → w.kind ≡ External → Holds w [] → IsSst w true last
+pub none_is : WrittenOpens → (w : Writer) (last : List ℕ) → w.kind ≡ External → HoldsEntries w [] → IsSst w true last
 none_is opens w last k h =
     let is = none_held opens w k h in
     record {
       kind = k;
-      holds = subst (λ (entries : List Entry). Holds w entries) (sym is) h;
+      holds = subst (λ (entries : List Entry). HoldsEntries w entries) (sym is) h;
       rows = subst (λ (entries : List Entry). MayBeTable External entries) (sym is) none_may;
       last_is = ap last_key is;
     }
@@ -95,7 +95,7 @@ nothing_is w empty last sst none = of (held w) (sst.last_is ∙ ap (λ (t : Bool
 
 -- ---- with an entry more
 
-kind_more : (w : Writer) (e : Entry) → (added w e).kind ≡ w.kind
+kind_more : (w : Writer) (e : Entry) → (entry_added w e).kind ≡ w.kind
 kind_more w e =
     let block = added_to_block w.block (internal_key e) (value_under e.mark) in
     let by : (t : Bool) → (cond t (with_closed w block) (with_open w block)).kind ≡ w.kind =
@@ -138,20 +138,20 @@ pub record More (new : Writer) (entries : List Entry) (key : List ℕ) (mark : M
   pub rows : MayBeTable External (held new)
   pub keeps : (last : List ℕ) → last ≡ key → IsSst new false last
 
-pub more : WrittenOpens → (w new : Writer) (empty : Bool) (last : List ℕ) (entries : List Entry) (key slice : List ℕ) (mark : Mark) → IsSst w empty last → held w ≡ entries → slice ≡ key → new ≡ added w (entry_with slice mark)
-    → rises_to entries key ≡ true → length key ≤ 65535 → FitsMark mark → length (finished (added w (entry_with slice mark))) ≤ greatest_size w.kind → More new entries key mark
+pub more : WrittenOpens → (w new : Writer) (empty : Bool) (last : List ℕ) (entries : List Entry) (key slice : List ℕ) (mark : Mark) → IsSst w empty last → held w ≡ entries → slice ≡ key → new ≡ entry_added w (entry_with slice mark)
+    → rises_to entries key ≡ true → length key ≤ 65535 → FitsMark mark → length (finished_table (entry_added w (entry_with slice mark))) ≤ greatest_size w.kind → More new entries key mark
 more opens w new empty last entries key slice mark sst has same is_added rises short fits room =
     let e = entry_with key mark in
     let whole = entries ++ e ∷ [] in
-    let is_new : new ≡ added w e = is_added ∙ ap (λ (k : List ℕ). added w (entry_with k mark)) same in
+    let is_new : new ≡ entry_added w e = is_added ∙ ap (λ (k : List ℕ). entry_added w (entry_with k mark)) same in
     let kind : new.kind ≡ External = ap (λ (x : Writer). x.kind) is_new ∙ kind_more w e ∙ sst.kind in
-    let old : Holds w entries = subst (λ (l : List Entry). Holds w l) has sst.holds in
-    let holds : Holds new whole = subst (λ (x : Writer). Holds x whole) (sym is_new) (table_holds_more w entries e old) in
+    let old : HoldsEntries w entries = subst (λ (l : List Entry). HoldsEntries w l) has sst.holds in
+    let holds : HoldsEntries new whole = subst (λ (x : Writer). HoldsEntries x whole) (sym is_new) (table_holds_more w entries e old) in
     let may : MayBeTable External whole = may_more entries key mark (subst (λ (l : List Entry). MayBeTable External l) has sst.rows) rises short fits in
-    let size : length (finished new) ≤ greatest_size External = subst (λ (x : Writer). length (finished x) ≤ greatest_size External) (sym is_added) (subst (λ (k : TableKind). length (finished (added w (entry_with slice mark))) ≤ greatest_size k) sst.kind room) in
+    let size : length (finished_table new) ≤ greatest_size External = subst (λ (x : Writer). length (finished_table x) ≤ greatest_size External) (sym is_added) (subst (λ (k : TableKind). length (finished_table (entry_added w (entry_with slice mark))) ≤ greatest_size k) sst.kind room) in
     let is : held new ≡ whole = held_is opens new whole kind holds may size in
     let rows : MayBeTable External (held new) = subst (λ (l : List Entry). MayBeTable External l) (sym is) may in
-    let kept : Holds new (held new) = subst (λ (l : List Entry). Holds new l) (sym is) holds in
+    let kept : HoldsEntries new (held new) = subst (λ (l : List Entry). HoldsEntries new l) (sym is) holds in
     record {
       is = is;
       fits = subst (λ (l : List ℕ). length l ≤ greatest_size External) (written_is new (held new) kind kept) size;
@@ -166,13 +166,13 @@ more opens w new empty last entries key slice mark sst has same is_added rises s
 
 -- the table with an entry more that isn't added
 pub too_large_of : (w : Writer) (empty : Bool) (last : List ℕ) (entries : List Entry) (key slice : List ℕ) (mark : Mark) → IsSst w empty last → held w ≡ entries → slice ≡ key
-    → greatest_size w.kind < length (finished (added w (entry_with slice mark))) → greatest_size External < length (written_table External (entries ++ entry_with key mark ∷ []))
+    → greatest_size w.kind < length (finished_table (entry_added w (entry_with slice mark))) → greatest_size External < length (written_table External (entries ++ entry_with key mark ∷ []))
 too_large_of w empty last entries key slice mark sst has same large =
     let e = entry_with slice mark in
-    let old : Holds w entries = subst (λ (l : List Entry). Holds w l) has sst.holds in
-    let is : finished (added w e) ≡ written_table External (entries ++ e ∷ []) = written_is (added w e) (entries ++ e ∷ []) (kind_more w e ∙ sst.kind) (table_holds_more w entries e old) in
+    let old : HoldsEntries w entries = subst (λ (l : List Entry). HoldsEntries w l) has sst.holds in
+    let is : finished_table (entry_added w e) ≡ written_table External (entries ++ e ∷ []) = written_is (entry_added w e) (entries ++ e ∷ []) (kind_more w e ∙ sst.kind) (table_holds_more w entries e old) in
     subst (λ (k : List ℕ). greatest_size External < length (written_table External (entries ++ entry_with k mark ∷ []))) same
-    (subst (λ (l : List ℕ). greatest_size External < length l) is (subst (λ (k : TableKind). greatest_size k < length (finished (added w e))) sst.kind large))
+    (subst (λ (l : List ℕ). greatest_size External < length l) is (subst (λ (k : TableKind). greatest_size k < length (finished_table (entry_added w e))) sst.kind large))
 
 -- the fault that a table's writer gave
 pub fault_was : (fault : AddFault) (to : WriterFault) → to ≡ writer_fault fault → to ≡ TooLarge → fault ≡ add.TooLarge
@@ -181,6 +181,6 @@ fault_was add.OutOfMemory to is h = absurd (let w : OutOfMemory ≡ TooLarge = s
 
 -- the table of what is held
 pub all_written : (w : Writer) (empty : Bool) (last : List ℕ) (entries : List Entry) (bytes : List ℕ) → IsSst w empty last → held w ≡ entries
-    → ((l : List Entry) → Holds w l → bytes ≡ written_table w.kind l) → bytes ≡ written_table External entries
+    → ((l : List Entry) → HoldsEntries w l → bytes ≡ written_table w.kind l) → bytes ≡ written_table External entries
 all_written w empty last entries bytes sst has by =
-    by entries (subst (λ (l : List Entry). Holds w l) has sst.holds) ∙ ap (λ (kind : TableKind). written_table kind entries) sst.kind
+    by entries (subst (λ (l : List Entry). HoldsEntries w l) has sst.holds) ∙ ap (λ (kind : TableKind). written_table kind entries) sst.kind

@@ -6,7 +6,7 @@ use Rattle.st_base.specs.declared.entry.Entry.{Entry}
 use Rattle.st_base.specs.declared.entry.Mark.{Mark}
 use Rattle.st_base.specs.declared.faults.TableFault.{TableFault}
 use Rattle.st_table.specs.Table.{table_of}
-use Rattle.st_table.specs.Written.{Holds, MayBeTable, Writer, finished}
+use Rattle.st_table.specs.Written.{HoldsEntries, MayBeTable, Writer, finished_table}
 use Rattle.st_table.specs.declared.kind.TableKind.TheVariants.{External}
 use Rattle.st_table.specs.declared.writer.AddFault.{AddFault}
 use Rattle.st_table.specs.declared.writer.AddFault.TheVariants as add
@@ -40,11 +40,11 @@ entries_or_none (Err fault) = []
 
 -- what a table's writer was given: the entries of the table that it would finish
 unfoldable pub held : Writer → List Entry
-held table = entries_or_none (table_of External (finished table))
+held table = entries_or_none (table_of External (finished_table table))
 
 -- what a writer keeps: its table holds these entries, they may stand in an external table, and which key is the last
 pub record IsSst (table : Writer) (empty : Bool) (last : List ℕ) : Type 0 where
   pub kind : table.kind ≡ External
-  pub holds : Holds table (held table)
+  pub holds : HoldsEntries table (held table)
   pub rows : MayBeTable External (held table)
   pub last_is : last_key (held table) ≡ (if empty then None else Some last)

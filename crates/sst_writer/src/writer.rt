@@ -118,7 +118,7 @@ impl SstFileWriter {
         ensures table { IfOk result (λ bytes. IsTable bytes External self) }
         ensures some { IfOk result (λ bytes. ¬ (self ≡ [])) }
         ensures no_entry { IfErr result (λ refused. (refused.1 ≡ FinishFault.NoEntry) ↔ (self ≡ [])) }
-        ensures kept { IfErr result (λ refused. refused.0 ≡ self) }
+        ensures unchanged { IfErr result (λ refused. refused.0 ≡ self) }
     {
         if self.is_empty {
             return Err((self, FinishFault::NoEntry));

@@ -9,7 +9,7 @@ use Rattle.std.proofs.lemmas.List.Sums.{common_prefix_len-le}
 use Rattle.st_base.specs.declared.faults.BlockFault.{BlockFault}
 use Rattle.st_base.specs.declared.faults.BlockFault.TheVariants.{Entry, Order}
 use Rattle.st_code.specs.declared.fault.CodeFault.{CodeFault}
-use Rattle.st_code.specs.Varint.{below, placed, spelled, varint, varint32_at}
+use Rattle.st_code.specs.Varint.{if_below, placed, spelled, varint, varint32_at}
 use Rattle.st_block.specs.Block.{Cell, Head, cell_at, cells_from, entries_of, fits, found_then, head_at, is_after, next_cell, tested, with_cell}
 use Rattle.st_block.specs.Written.{FitsBlock, GoOn, MayWrite, cells_of, entries_bytes, entry_bytes, shared_of}
 use Rattle.st_block.specs.declared.kind.BlockKind.{BlockKind}
@@ -41,7 +41,7 @@ placed_on (Ok found) at n count e =
 module _ (again : (front rest : List ℕ) (n : ℕ) → n < 2 ^ 32 → varint32_at (front ++ varint n ++ rest) (length front) ≡ Ok (n, length front + length (varint n))) where
   number_at : (area rest : List ℕ) (at n : ℕ) → n < 2 ^ 32 → drop at area ≡ varint n ++ rest → varint32_at area at ≡ Ok (n, at + length (varint n))
   number_at area rest at n lt e =
-      ap (λ (l : List ℕ). placed at (below (2 ^ 32) (spelled 5 l))) e ∙ placed_on (below (2 ^ 32) (spelled 5 (varint n ++ rest))) at n (length (varint n)) (again [] rest n lt)
+      ap (λ (l : List ℕ). placed at (if_below (2 ^ 32) (spelled 5 l))) e ∙ placed_on (if_below (2 ^ 32) (spelled 5 (varint n ++ rest))) at n (length (varint n)) (again [] rest n lt)
 
   head_written : (area rest : List ℕ) (at s u v : ℕ) → s < 2 ^ 32 → u < 2 ^ 32 → v < 2 ^ 32 → drop at area ≡ varint s ++ (varint u ++ (varint v ++ rest))
       → head_at area at ≡ Some (record { shared = s; unshared = u; value = v; behind = at + length (varint s) + length (varint u) + length (varint v) })

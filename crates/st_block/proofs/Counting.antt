@@ -5,7 +5,7 @@ use Rattle.std.proofs.Math.Nat.{le_trans, le-max_left, le-max_right, mul-le-mul_
 use Rattle.std.proofs.lemmas.Bool.{cases_lt}
 use Rattle.st_block.specs.Block.{Cell, offsets_at}
 use Rattle.st_block.specs.InternalKey.{is_key_before}
-use Rattle.st_block.specs.Place.{Contents, cells_at, cells_from_place, cells_in, contents_in}
+use Rattle.st_block.specs.BlockContents.{BlockContents, cells_at, cells_from_place, cells_in, block_contents_in}
 use Rattle.st_block.specs.Search.{IsLast, IsShort, IsWalked, widest}
 use Rattle.st_block.specs.declared.kind.BlockKind.{BlockKind}
 use Rattle.st_block.specs.declared.open.Layout.{Layout}
@@ -95,8 +95,8 @@ not_behind (cell ∷ cells) next key number h = by_place (eqb cell.at next) refl
 -- ---- together
 
 module _ (kind : BlockKind) (text : List ℕ) (layout : Layout) (key : List ℕ) (number : ℕ) where
-  abbrev pub block : Contents
-  block = contents_in kind text layout
+  abbrev pub block : BlockContents
+  block = block_contents_in kind text layout
 
   interval : (from : ℕ) → IsLast kind text layout key number from → length (cells_at from block.cells) ≤ length (cells_from_place key number block.cells) + widest block.cells block.restarts
   interval from last =

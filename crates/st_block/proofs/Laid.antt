@@ -7,8 +7,8 @@ use Rattle.st_base.specs.declared.faults.BlockFault.{BlockFault}
 use Rattle.st_base.specs.declared.faults.BlockFault.TheVariants.{Entry, Order}
 use Rattle.st_code.specs.declared.fault.CodeFault.{CodeFault}
 use Rattle.st_code.specs.declared.fault.CodeFault.TheVariants.{TooLong}
-use Rattle.st_code.specs.Varint.{spelled, with_low, below, placed, varint32_at}
-use Rattle.st_block.specs.Block.{Cell, Head, cell_at, cells_from, entries_of, fits, found_then, head_at, is_after, is_long, laid, next_cell, tested, with_cell}
+use Rattle.st_code.specs.Varint.{spelled, with_low, if_below, placed, varint32_at}
+use Rattle.st_block.specs.Block.{Cell, Head, cell_at, cells_from, entries_of, fits, found_then, head_at, is_after, is_long_enough, laid, next_cell, tested, with_cell}
 use Rattle.st_block.specs.declared.kind.BlockKind.{BlockKind}
 use Rattle.st_block.proofs.Cells.{fits_parts}
 
@@ -31,7 +31,7 @@ spelled_some (suc most) (b ∷ bytes) found e = last_or_more (ltb b 128) b (spel
     last_or_more true b rest found e = let same : (b, 1) ≡ found = cc in subst (λ (f : ℕ × ℕ). 1 ≤ f.1) same (omega arith)
     last_or_more false b rest found e = low_some (b - 128) rest found e
 
-placed_behind : (at limit : ℕ) (r : Number) → ((found : ℕ × ℕ) → r ≡ Ok found → 1 ≤ found.1) → (found : ℕ × ℕ) → placed at (below limit r) ≡ Ok found → at < found.1
+placed_behind : (at limit : ℕ) (r : Number) → ((found : ℕ × ℕ) → r ≡ Ok found → 1 ≤ found.1) → (found : ℕ × ℕ) → placed at (if_below limit r) ≡ Ok found → at < found.1
 placed_behind at limit (Err fault) h found e = absurd cc
 placed_behind at limit (Ok number) h found e =
     elim (cases_Bool (ltb number.0 limit)) [
@@ -103,7 +103,7 @@ Laid area before at (cell ∷ cells) = (next : ℕ) × (cell_at area before at �
 
 pub tested_some : (kind : BlockKind) (before : List ℕ) (at : ℕ) (o : Option (Cell × ℕ)) (found : Cell × ℕ) → tested kind before at o ≡ Ok found → o ≡ Some found
 tested_some kind before at None found e = absurd cc
-tested_some kind before at (Some other) found e = ap (λ (x : Cell × ℕ). Some x) (both (is_long kind other.0.key) (eqb at 0 || is_after kind before other.0.key) e)
+tested_some kind before at (Some other) found e = ap (λ (x : Cell × ℕ). Some x) (both (is_long_enough kind other.0.key) (eqb at 0 || is_after kind before other.0.key) e)
   where
     both : (s t : Bool) → cond s (cond t (Ok other) (Err (Order at))) (Err (Entry at)) ≡ Ok found → other ≡ found
     both true true e = let same : other ≡ found = cc in same

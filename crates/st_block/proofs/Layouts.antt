@@ -6,11 +6,11 @@ use Rattle.std.proofs.lemmas.Bool.{cases_Bool, and_parts, eq-eqb, ne_eqb, eqb-tr
 use Rattle.st_base.specs.Order.{rises}
 use Rattle.st_base.specs.declared.faults.BlockFault.{BlockFault}
 use Rattle.st_base.specs.declared.faults.BlockFault.TheVariants.{Restarts}
-use Rattle.st_block.specs.Block.{Cell, Tail as Parts, are_restarts, block_of, counted, entries_before, entries_of, fitted, is_restart, none_fit, offsets_at, restarts_fit, restarts_of, tail_end, tail_of, tail_restarts}
+use Rattle.st_block.specs.Block.{Cell, Tail as Parts, are_restarts, block_of, counted_tail, entries_before, entries_of, fitted, is_restart, none_fit, offsets_at, restarts_fit, restarts_of, tail_end, tail_of, tail_restarts}
 use Rattle.st_block.specs.Entry.{IsLayout, IsTested, IsUnfit, MayStand, restarts_left}
 use Rattle.st_block.specs.declared.kind.BlockKind.{BlockKind}
 use Rattle.st_block.specs.declared.kind.BlockKind.TheVariants.{Data, Index, Plain}
-use Rattle.st_block.specs.declared.open.Found.{Found}
+use Rattle.st_block.specs.declared.open.CellCounts.{CellCounts}
 use Rattle.st_block.specs.declared.open.Layout.{Layout}
 use Rattle.st_block.specs.declared.tail.Tail.{Tail}
 use Rattle.st_block.proofs.Laid.{entries_laid}
@@ -25,7 +25,7 @@ length_offsets text at (suc count) = ap suc (length_offsets text (at + 4) count)
 
 tail_rises : (text : List ℕ) (tail : Parts) → tail_of text ≡ Some tail → are_restarts tail.restarts ≡ true
 unfolding tail_of
-tail_rises text tail e = outer (ltb (length text) 4) (counted text (from_le_bytes w32 (drop (length text - 4) text))) e (inner (from_le_bytes w32 (drop (length text - 4) text)))
+tail_rises text tail e = outer (ltb (length text) 4) (counted_tail text (from_le_bytes w32 (drop (length text - 4) text))) e (inner (from_le_bytes w32 (drop (length text - 4) text)))
   where
     outer : (t : Bool) (o : Option Parts) → cond t None o ≡ Some tail → (o ≡ Some tail → are_restarts tail.restarts ≡ true) → are_restarts tail.restarts ≡ true
     outer true o e f = absurd cc
@@ -39,7 +39,7 @@ tail_rises text tail e = outer (ltb (length text) 4) (counted text (from_le_byte
     first true o e = absurd cc
     first false o e = e
 
-    inner : (count : ℕ) → counted text count ≡ Some tail → are_restarts tail.restarts ≡ true
+    inner : (count : ℕ) → counted_tail text count ≡ Some tail → are_restarts tail.restarts ≡ true
     inner count e =
         let at = length text - (4 * count + 4) in
         let parts : Parts = record { end = at; restarts = offsets_at text at count } in
@@ -65,7 +65,7 @@ left_some text tail met lt e = let same = sym (offsets_more text tail.end tail.c
 
 -- ---- the whole
 
-module _ (kind : BlockKind) (text : List ℕ) (tail : Tail) (found : Found) (cells : List Cell)
+module _ (kind : BlockKind) (text : List ℕ) (tail : Tail) (found : CellCounts) (cells : List Cell)
     (there : tail_of text ≡ Some (record { end = tail.end; restarts = offsets_at text tail.end tail.count }))
     (read : IsTested kind text (take tail.end text) tail found cells) where
   whole : block_of kind text ≡ restarts_fit kind (offsets_at text tail.end tail.count) cells

@@ -4,7 +4,7 @@ use Rattle.std.specs.Prelude.{slice_range}
 use Rattle.std.proofs.lemmas.Bool.{cases_Bool, and_parts, and_from, eqb-true, eq-eqb, ne_eqb, le-leb}
 use Rattle.std.proofs.lemmas.List.{take_at, length-take, length-append, length-take-le}
 use Rattle.st_block.specs.Block.{Cell, Head, cell_at, fits, head_at, is_restart, laid}
-use Rattle.st_block.specs.Place.{Contents, Primes, Stands, Takes, cells_at, place_of}
+use Rattle.st_block.specs.BlockContents.{BlockContents, Primes, IsReadableAt, TakesCell, cells_at, offset_of}
 use Rattle.st_block.proofs.Cells.{fitting_is, fits_parts}
 use Rattle.st_block.proofs.Laid.{Laid, cell_there, next_behind, some_is}
 use Rattle.st_block.proofs.Meeting.{Rising, not_there}
@@ -42,7 +42,7 @@ shared_front area before at found e =
 
 -- ---- entries from a place on
 
-pub at_start : (area before : List ℕ) (at : ℕ) (cells : List Cell) → Laid area before at cells → (cells_at at cells ≡ cells) × (place_of (length area) cells ≡ at)
+pub at_start : (area before : List ℕ) (at : ℕ) (cells : List Cell) → Laid area before at cells → (cells_at at cells ≡ cells) × (offset_of (length area) cells ≡ at)
 at_start area before at [] l = (refl, sym l)
 at_start area before at (cell ∷ cells) l =
     let p = next_behind area before at (cell, l.0) l.1 in
@@ -101,7 +101,7 @@ cases_list (cell ∷ cells) = inr (cell, (cells, refl))
 
 -- ---- a block whose entries lie in these bytes
 
-module _ (area : List ℕ) (block : Contents) (lie : Laid area [] 0 block.cells) (end : length area ≡ block.end) where
+module _ (area : List ℕ) (block : BlockContents) (lie : Laid area [] 0 block.cells) (end : length area ≡ block.end) where
   pub end_none : cells_at block.end block.cells ≡ []
   end_none =
       elim (cases_list (cells_at block.end block.cells)) [
@@ -112,18 +112,18 @@ module _ (area : List ℕ) (block : Contents) (lie : Laid area [] 0 block.cells)
             absurd (omega (arith, p.0, p.1))
       ]
 
-  pub behind_first : (at : ℕ) (cell : Cell) (rest : List Cell) (f : IsFirst area block.cells 0 at cell rest) → Stands block f.next cell.key
+  pub behind_first : (at : ℕ) (cell : Cell) (rest : List Cell) (f : IsFirst area block.cells 0 at cell rest) → IsReadableAt block f.next cell.key
   behind_first at cell rest f =
       record {
-        place = ap (place_of block.end) f.rest_is ∙ subst (λ (k : ℕ). place_of k rest ≡ f.next) end (at_start area cell.key f.next rest f.laid).1;
+        offset = ap (offset_of block.end) f.rest_is ∙ subst (λ (k : ℕ). offset_of k rest ≡ f.next) end (at_start area cell.key f.next rest f.laid).1;
         primes = subst (Primes cell.key) (sym f.rest_is) (primes_of area cell.key f.next rest f.laid);
       }
 
-  module _ (at : ℕ) (key : List ℕ) (stands : Stands block at key) (more : at ≢ block.end) where
+  module _ (at : ℕ) (key : List ℕ) (stands : IsReadableAt block at key) (more : at ≢ block.end) where
     pub some_cell : (cell : Cell) × ((rest : List Cell) × (cells_at at block.cells ≡ cell ∷ rest))
     some_cell =
         elim (cases_list (cells_at at block.cells)) [
-          | inl none ↦ absurd (more (sym (sym (ap (place_of block.end) none) ∙ stands.place)))
+          | inl none ↦ absurd (more (sym (sym (ap (offset_of block.end) none) ∙ stands.offset)))
           | inr some ↦ some
         ]
 
@@ -139,13 +139,13 @@ module _ (area : List ℕ) (block : Contents) (lie : Laid area [] 0 block.cells)
         let e = is_there s.0 s.1.0 s.1.1 f in
         (let w : None ≡ Some (s.0, f.next) = sym n ∙ e in cc)
 
-    pub takes : (found : Cell × ℕ) → cell_at area key at ≡ Some found → Takes block at found.0.key found.0.value found.1 found.0
+    pub takes : (found : Cell × ℕ) → cell_at area key at ≡ Some found → TakesCell block at found.0.key found.0.value found.1 found.0
     takes found there =
         let s = some_cell in
         let f = first_at area [] 0 block.cells lie at s.0 s.1.0 s.1.1 in
         let e = is_there s.0 s.1.0 s.1.1 f in
         let same : (s.0, f.next) ≡ found = some_is (s.0, f.next) found (sym e ∙ there) in
-        subst (λ (g : Cell × ℕ). Takes block at g.0.key g.0.value g.1 g.0) same (record {
+        subst (λ (g : Cell × ℕ). TakesCell block at g.0.key g.0.value g.1 g.0) same (record {
           first = s.1.1 ∙ ap (λ (l : List Cell). s.0 ∷ l) (sym f.rest_is);
           key_is = refl;
           value_is = refl;

@@ -11,7 +11,7 @@ use Rattle.st_base.specs.Order.{rises, rises_behind}
 use Rattle.st_block.specs.Block.{Cell, cell_at, is_restart, offsets_at}
 use Rattle.st_block.specs.Entry.{IsLayout}
 use Rattle.st_block.specs.InternalKey.{internal_cmp, is_key_before, packed, user_key}
-use Rattle.st_block.specs.Place.{Contents, Primes, Stands, Takes, cells_at, cells_from_place, cells_in, contents_in, keys_rise, lower_place, place_of}
+use Rattle.st_block.specs.BlockContents.{BlockContents, Primes, IsReadableAt, TakesCell, cells_at, cells_from_place, cells_in, block_contents_in, internal_keys_rise, lower_offset, offset_of}
 use Rattle.st_block.specs.Search.{IsStart}
 use Rattle.st_block.specs.declared.kind.BlockKind.{BlockKind}
 use Rattle.st_block.specs.declared.open.Layout.{Layout}
@@ -167,19 +167,19 @@ skips (one ∷ cells) at cell rest key number h e g =
 -- ---- the walk
 
 module _ (kind : BlockKind) (text : List ℕ) (layout : Layout) (lies : IsLayout kind text layout (cells_in kind (take layout.end text))) (key : List ℕ) (number : ℕ) where
-  abbrev pub block : Contents
-  block = contents_in kind text layout
+  abbrev pub block : BlockContents
+  block = block_contents_in kind text layout
 
-  pub begins : (at : ℕ) (scratch : List ℕ) → IsStart kind text layout key number at → Stands block at scratch
+  pub begins : (at : ℕ) (scratch : List ℕ) → IsStart kind text layout key number at → IsReadableAt block at scratch
   begins at scratch start =
       let lie = entries_laid kind (take layout.end text) block.cells lies.area in
       let r = restart_at block.cells at (laid_rising (take layout.end text) [] 0 block.cells lie) start.restart in
       record {
-        place = ap (place_of layout.end) r.1.1 ∙ r.1.3;
+        offset = ap (offset_of layout.end) r.1.1 ∙ r.1.3;
         primes = subst (Primes scratch) (sym r.1.1) (omega (arith, r.1.2), ap (λ (k : ℕ). take k scratch) r.1.2 ∙ ap (λ (k : ℕ). take k r.0.key) (sym r.1.2));
       }
 
-  pub skipped : (at : ℕ) → keys_rise block.cells ≡ true → IsStart kind text layout key number at → cells_from_place key number block.cells ≡ cells_from_place key number (cells_at at block.cells)
+  pub skipped : (at : ℕ) → internal_keys_rise block.cells ≡ true → IsStart kind text layout key number at → cells_from_place key number block.cells ≡ cells_from_place key number (cells_at at block.cells)
   skipped at order start =
       let lie = entries_laid kind (take layout.end text) block.cells lies.area in
       elim start.before [
@@ -189,50 +189,50 @@ module _ (kind : BlockKind) (text : List ℕ) (layout : Layout) (lies : IsLayout
             skips block.cells at r.0 r.1.0 key number order r.1.1 (first r.0 r.1.0 r.1.1)
       ]
 
-  pub walks : (at next : ℕ) (scratch value : List ℕ) (cell : Cell) → Takes block at scratch value next cell → is_key_before key number scratch ≡ true
+  pub walks : (at next : ℕ) (scratch value : List ℕ) (cell : Cell) → TakesCell block at scratch value next cell → is_key_before key number scratch ≡ true
       → cells_from_place key number block.cells ≡ cells_from_place key number (cells_at at block.cells) → cells_from_place key number block.cells ≡ cells_from_place key number (cells_at next block.cells)
   walks at next scratch value cell takes before so_far =
       so_far ∙ ap (cells_from_place key number) takes.first
       ∙ ap (λ (t : Bool). cond t (cells_from_place key number (cells_at next block.cells)) (cell ∷ cells_at next block.cells)) (ap (is_key_before key number) takes.key_is ∙ before)
 
-  pub stops : (at next : ℕ) (old scratch value : List ℕ) (cell : Cell) → Stands block at old → Takes block at scratch value next cell → is_key_before key number scratch ≡ false
-      → cells_from_place key number block.cells ≡ cells_from_place key number (cells_at at block.cells) → (at ≡ lower_place block key number) × Stands block at scratch
+  pub stops : (at next : ℕ) (old scratch value : List ℕ) (cell : Cell) → IsReadableAt block at old → TakesCell block at scratch value next cell → is_key_before key number scratch ≡ false
+      → cells_from_place key number block.cells ≡ cells_from_place key number (cells_at at block.cells) → (at ≡ lower_offset block key number) × IsReadableAt block at scratch
   stops at next old scratch value cell stands takes before so_far =
       let from : cells_from_place key number block.cells ≡ cell ∷ cells_at next block.cells =
       so_far ∙ ap (cells_from_place key number) takes.first
       ∙ ap (λ (t : Bool). cond t (cells_from_place key number (cells_at next block.cells)) (cell ∷ cells_at next block.cells)) (ap (is_key_before key number) takes.key_is ∙ before) in
-      let place : cell.at ≡ at = sym (ap (place_of layout.end) takes.first) ∙ stands.place in (
-        sym (ap (place_of layout.end) from ∙ place),
+      let place : cell.at ≡ at = sym (ap (offset_of layout.end) takes.first) ∙ stands.offset in (
+        sym (ap (offset_of layout.end) from ∙ place),
         record {
-          place = stands.place;
+          offset = stands.offset;
           primes = subst (Primes scratch) (sym takes.first) (subst (λ (k : List ℕ). (cell.shared ≤ length k) × (take cell.shared k ≡ take cell.shared cell.key)) takes.key_is (takes.shared, refl));
         },
       )
 
-  pub stays : (at next : ℕ) (scratch value : List ℕ) (cell : Cell) → Takes block at scratch value next cell → is_key_before key number scratch ≡ false
+  pub stays : (at next : ℕ) (scratch value : List ℕ) (cell : Cell) → TakesCell block at scratch value next cell → is_key_before key number scratch ≡ false
       → cells_from_place key number block.cells ≡ cells_from_place key number (cells_at at block.cells) → length (cells_at at block.cells) ≡ length (cells_from_place key number block.cells)
   stays at next scratch value cell takes before so_far =
       ap length (takes.first
       ∙ sym (so_far ∙ ap (cells_from_place key number) takes.first
       ∙ ap (λ (t : Bool). cond t (cells_from_place key number (cells_at next block.cells)) (cell ∷ cells_at next block.cells)) (ap (is_key_before key number) takes.key_is ∙ before)))
 
-  pub ends : (at : ℕ) (old : List ℕ) → Stands block at old → cells_at at block.cells ≡ [] → cells_from_place key number block.cells ≡ cells_from_place key number (cells_at at block.cells) → at ≡ lower_place block key number
+  pub ends : (at : ℕ) (old : List ℕ) → IsReadableAt block at old → cells_at at block.cells ≡ [] → cells_from_place key number block.cells ≡ cells_from_place key number (cells_at at block.cells) → at ≡ lower_offset block key number
   ends at old stands none so_far =
-      sym (ap (place_of layout.end) (so_far ∙ ap (cells_from_place key number) none) ∙ sym (ap (place_of layout.end) none) ∙ stands.place)
+      sym (ap (offset_of layout.end) (so_far ∙ ap (cells_from_place key number) none) ∙ sym (ap (offset_of layout.end) none) ∙ stands.offset)
 
-  pub empty : (scratch : List ℕ) → layout.entries ≡ 0 → (layout.end ≡ lower_place block key number) × Stands block layout.end scratch
+  pub empty : (scratch : List ℕ) → layout.entries ≡ 0 → (layout.end ≡ lower_offset block key number) × IsReadableAt block layout.end scratch
   empty scratch none =
       let nil : block.cells ≡ [] = nil_from_length block.cells (lies.count ∙ none) in (
-        sym (ap (λ (l : List Cell). place_of layout.end (cells_from_place key number l)) nil),
+        sym (ap (λ (l : List Cell). offset_of layout.end (cells_from_place key number l)) nil),
         record {
-          place = ap (λ (l : List Cell). place_of layout.end (cells_at layout.end l)) nil;
+          offset = ap (λ (l : List Cell). offset_of layout.end (cells_at layout.end l)) nil;
           primes = subst (λ (l : List Cell). Primes scratch (cells_at layout.end l)) (sym nil) tt;
         },
       )
 
 -- a reader may begin with the first entry
 pub from_start : (kind : BlockKind) (text : List ℕ) (layout : Layout) → IsLayout kind text layout (cells_in kind (take layout.end text))
-    → (cells_at 0 (cells_in kind (take layout.end text)) ≡ cells_in kind (take layout.end text)) × ((key : List ℕ) → Stands (contents_in kind text layout) 0 key)
+    → (cells_at 0 (cells_in kind (take layout.end text)) ≡ cells_in kind (take layout.end text)) × ((key : List ℕ) → IsReadableAt (block_contents_in kind text layout) 0 key)
 from_start kind text layout lies =
     let cells = cells_in kind (take layout.end text) in
     let lie = entries_laid kind (take layout.end text) cells lies.area in
@@ -240,7 +240,7 @@ from_start kind text layout lies =
     let end : length (take layout.end text) ≡ layout.end = omega (arith, length-take layout.end text, lies.room) in (
       s.0,
       λ key. record {
-        place = ap (place_of layout.end) s.0 ∙ subst (λ (k : ℕ). place_of k cells ≡ 0) end s.1;
+        offset = ap (offset_of layout.end) s.0 ∙ subst (λ (k : ℕ). offset_of k cells ≡ 0) end s.1;
         primes = subst (Primes key) (sym s.0) (bare key cells (primes_of (take layout.end text) [] 0 cells lie));
       },
     )

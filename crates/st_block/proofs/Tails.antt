@@ -10,7 +10,7 @@ use Rattle.st_base.specs.Order.{rises_behind}
 use Rattle.st_base.specs.declared.faults.BlockFault.TheVariants.{Restarts}
 use Rattle.st_code.specs.Fixed.{fixed32}
 use Rattle.st_code.specs.Varint.{varint, varint32_at}
-use Rattle.st_block.specs.Block.{Cell, Tail, are_restarts, block_of, counted, entries_before, entries_of, fitted, is_restart, offsets_at, tail_of}
+use Rattle.st_block.specs.Block.{Cell, Tail, are_restarts, block_of, counted_tail, entries_before, entries_of, fitted, is_restart, offsets_at, tail_of}
 use Rattle.st_block.specs.Written.{MayWrite, cells_of, entries_bytes, entry_bytes, or_zero, restarts_of, shared_of, with_tail, written_block}
 use Rattle.st_block.specs.declared.kind.BlockKind.{BlockKind}
 use Rattle.st_block.proofs.Again.{entries_written}
@@ -57,8 +57,8 @@ tail_written entries rs good small few =
     let end : length bytes - (4 * n + 4) ≡ length entries = omega (arith, lb) in
     let there : drop (length entries) bytes ≡ offsets ++ fixed32 n = ap (λ (l : List ℕ). drop (length entries) l) (append_assoc entries offsets (fixed32 n)) ∙ drop_at entries (offsets ++ fixed32 n) (length entries) refl in
     let are : offsets_at bytes (length entries) n ≡ rs = offsets_written bytes (length entries) rs (fixed32 n) small there in
-    ap (λ (t : Bool). cond t None (counted bytes (from_le_bytes w32 (drop (length bytes - 4) bytes)))) (le-ltb (length bytes) 4 (omega (arith, lb)))
-    ∙ ap (counted bytes) count
+    ap (λ (t : Bool). cond t None (counted_tail bytes (from_le_bytes w32 (drop (length bytes - 4) bytes)))) (le-ltb (length bytes) 4 (omega (arith, lb)))
+    ∙ ap (counted_tail bytes) count
     ∙ ap (λ (t : Bool). cond t None (cond (are_restarts (offsets_at bytes (length bytes - (4 * n + 4)) n)) (Some (record { end = length bytes - (4 * n + 4); restarts = offsets_at bytes (length bytes - (4 * n + 4)) n })) None)) (le-ltb (length bytes) (4 * n + 4) (omega (arith, lb)))
     ∙ ap (λ (a : ℕ). cond (are_restarts (offsets_at bytes a n)) (Some (record { end = a; restarts = offsets_at bytes a n })) None) end
     ∙ ap (λ (l : List ℕ). cond (are_restarts l) (Some (record { end = length entries; restarts = l })) None) are

@@ -5,10 +5,10 @@ use Rattle.std.proofs.lemmas.Bool.{ne_eqb, eq-eqb}
 use Rattle.std.proofs.lemmas.List.{append-nil, length-append}
 use Rattle.std.proofs.lemmas.List.Sums.{fold_push}
 use Rattle.st_base.specs.declared.faults.BlockFault.{BlockFault}
-use Rattle.st_block.specs.Block.{Cell, cells_from, entries_of, found_then, is_long, next_cell, offsets_at, with_cell}
+use Rattle.st_block.specs.Block.{Cell, cells_from, entries_of, found_then, is_long_enough, next_cell, offsets_at, with_cell}
 use Rattle.st_block.specs.Entry.{AreRead, IsTested, pass, restarts_left, with_front}
 use Rattle.st_block.specs.declared.kind.BlockKind.{BlockKind}
-use Rattle.st_block.specs.declared.open.Found.{Found}
+use Rattle.st_block.specs.declared.open.CellCounts.{CellCounts}
 use Rattle.st_block.specs.declared.tail.Tail.{Tail}
 
 abbrev pub Cells : Type 0
@@ -32,7 +32,7 @@ cells_end (suc most) kind area before at e =
     ap (λ (t : Bool). cond t (Ok []) (found_then (next_cell kind area before at) (λ found. cells_from most kind area found.0.key found.1))) (eq-eqb at (length area) e)
 
 module _ (kind : BlockKind) (text area : List ℕ) (tail : Tail) (before : List ℕ) (at entries met : ℕ) (front : List Cell) (read : AreRead kind text area tail before at entries met front) where
-  pub goes_on : (cell : Cell) (next met' : ℕ) → at < length area → next_cell kind area before at ≡ Ok (cell, next) → at < next → next ≤ length area → IsTrue (is_long kind cell.key)
+  pub goes_on : (cell : Cell) (next met' : ℕ) → at < length area → next_cell kind area before at ≡ Ok (cell, next) → at < next → next ≤ length area → IsTrue (is_long_enough kind cell.key)
       → pass (restarts_left text tail met) cell ≡ restarts_left text tail met' → met' ≤ tail.count → AreRead kind text area tail cell.key next (entries + 1) met' (front ++ cell ∷ [])
   goes_on cell next met' lt e up in' long passed within =
       let k : length area - entries ≡ suc (length area - (entries + 1)) = omega (arith, read.moved) in
@@ -55,7 +55,7 @@ module _ (kind : BlockKind) (text area : List ℕ) (tail : Tail) (before : List 
       read.so_far ∙ ap (λ (n : ℕ). with_front front (cells_from n kind area before at)) k
       ∙ ap (with_front front) (cells_more (length area - (entries + 1)) kind area before at lt ∙ ap (λ (r : Result (Cell × ℕ) BlockFault). found_then r (λ found. cells_from (length area - (entries + 1)) kind area found.0.key found.1)) e)
 
-  pub is_done : (found : Found) → length area ≤ at → found.entries ≡ entries → found.met ≡ met → IsTested kind text area tail found front
+  pub is_done : (found : CellCounts) → length area ≤ at → found.entries ≡ entries → found.met ≡ met → IsTested kind text area tail found front
   is_done found le e m =
       record {
         cells_are = read.so_far ∙ ap (with_front front) (cells_end (length area - entries) kind area before at (omega (arith, read.inside))) ∙ ap (λ (l : List Cell). Ok l) (append-nil front);

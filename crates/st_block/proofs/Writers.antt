@@ -6,7 +6,7 @@ use Rattle.std.proofs.lemmas.Bool.{cases_Bool, eqb-true, lt-ltb}
 use Rattle.std.proofs.lemmas.List.{length-append, length-drop, append-nil}
 use Rattle.st_code.specs.Fixed.{fixed32}
 use Rattle.st_code.specs.Varint.{varint, shortest}
-use Rattle.st_block.specs.Written.{Holds, IsWriting, Writing, added, entries_bytes, entry_bytes, finished, last_key, or_zero, restarts_of, shared_of, with_tail}
+use Rattle.st_block.specs.Written.{HoldsPairs, IsWriting, Writing, pair_added, entries_bytes, entry_bytes, finished_block, last_pair_key, or_zero, restarts_of, shared_of, with_tail}
 
 -- ---- a common front
 
@@ -32,20 +32,20 @@ front_kept (x ∷ xs) (y ∷ ys) =
 abbrev Pairs : Type 0
 Pairs = List (List ℕ × List ℕ)
 
-last_more : (before : List ℕ) (pairs : Pairs) (pair : List ℕ × List ℕ) → last_key before (pairs ++ pair ∷ []) ≡ pair.0
+last_more : (before : List ℕ) (pairs : Pairs) (pair : List ℕ × List ℕ) → last_pair_key before (pairs ++ pair ∷ []) ≡ pair.0
 last_more before [] pair = refl
 last_more before (one ∷ pairs) pair = last_more one.0 pairs pair
 
 entries_more : (interval count : ℕ) (before : List ℕ) (pairs : Pairs) (pair : List ℕ × List ℕ)
-    → entries_bytes interval count before (pairs ++ pair ∷ []) ≡ entries_bytes interval count before pairs ++ entry_bytes (shared_of interval (count + length pairs) (last_key before pairs) pair.0) pair.0 pair.1
+    → entries_bytes interval count before (pairs ++ pair ∷ []) ≡ entries_bytes interval count before pairs ++ entry_bytes (shared_of interval (count + length pairs) (last_pair_key before pairs) pair.0) pair.0 pair.1
 entries_more interval count before [] pair =
     append-nil (entry_bytes (shared_of interval count before pair.0) pair.0 pair.1)
     ∙ ap (λ (k : ℕ). entry_bytes (shared_of interval k before pair.0) pair.0 pair.1) (let k : count ≡ count + 0 = omega arith in k)
 entries_more interval count before (one ∷ pairs) pair =
     let first = entry_bytes (shared_of interval count before one.0) one.0 one.1 in
     ap (λ (l : List ℕ). first ++ l) (entries_more interval (count + 1) one.0 pairs pair)
-    ∙ sym (append_assoc first (entries_bytes interval (count + 1) one.0 pairs) (entry_bytes (shared_of interval (count + 1 + length pairs) (last_key one.0 pairs) pair.0) pair.0 pair.1))
-    ∙ ap (λ (k : ℕ). first ++ entries_bytes interval (count + 1) one.0 pairs ++ entry_bytes (shared_of interval k (last_key one.0 pairs) pair.0) pair.0 pair.1) (let k : count + 1 + length pairs ≡ count + suc (length pairs) = omega arith in k)
+    ∙ sym (append_assoc first (entries_bytes interval (count + 1) one.0 pairs) (entry_bytes (shared_of interval (count + 1 + length pairs) (last_pair_key one.0 pairs) pair.0) pair.0 pair.1))
+    ∙ ap (λ (k : ℕ). first ++ entries_bytes interval (count + 1) one.0 pairs ++ entry_bytes (shared_of interval k (last_pair_key one.0 pairs) pair.0) pair.0 pair.1) (let k : count + 1 + length pairs ≡ count + suc (length pairs) = omega arith in k)
 
 restarts_more : (interval count at : ℕ) (before : List ℕ) (pairs : Pairs) (pair : List ℕ × List ℕ)
     → restarts_of interval count at before (pairs ++ pair ∷ []) ≡ restarts_of interval count at before pairs ++ cond (eqb ((count + length pairs) % interval) 0) ((at + length (entries_bytes interval count before pairs)) ∷ []) []
@@ -64,7 +64,7 @@ restarts_more interval count at before (one ∷ pairs) pair =
     ∙ ap (λ (n : ℕ). here ++ rest ++ cond (eqb (n % interval) 0) ((at + length first + length (entries_bytes interval (count + 1) one.0 pairs)) ∷ []) []) k
     ∙ ap (λ (n : ℕ). here ++ rest ++ cond (eqb ((count + suc (length pairs)) % interval) 0) (n ∷ []) []) m
 
-pub holds_more : (writing : Writing) (pairs : Pairs) (key value : List ℕ) → Holds writing pairs → Holds (added writing key value) (pairs ++ (key, value) ∷ [])
+pub holds_more : (writing : Writing) (pairs : Pairs) (key value : List ℕ) → HoldsPairs writing pairs → HoldsPairs (pair_added writing key value) (pairs ++ (key, value) ∷ [])
 holds_more writing pairs key value h =
     let n : writing.count ≡ 0 + length pairs = omega (arith, h.count) in
     record {
@@ -99,11 +99,11 @@ entry_some shared key value =
     omega (arith, varint_some shared, length-append a b, length-append (a ++ b) c, length-append (a ++ b ++ c) (drop shared key), length-append (a ++ b ++ c ++ drop shared key) value)
 
 -- what was finished is no shorter than its entries
-pub finished_long : (writing : Writing) → length writing.entries ≤ length (finished writing)
+pub finished_long : (writing : Writing) → length writing.entries ≤ length (finished_block writing)
 finished_long writing =
     omega (arith, length-append writing.entries (flat_map fixed32 (or_zero writing.restarts)), length-append (writing.entries ++ flat_map fixed32 (or_zero writing.restarts)) (fixed32 (length (or_zero writing.restarts))))
 
-pub keeps_writing : (writing : Writing) (key value : List ℕ) → IsWriting writing → length (finished (added writing key value)) < 2 ^ 32 → IsWriting (added writing key value)
+pub keeps_writing : (writing : Writing) (key value : List ℕ) → IsWriting writing → length (finished_block (pair_added writing key value)) < 2 ^ 32 → IsWriting (pair_added writing key value)
 keeps_writing writing key value w room =
     let entry = entry_bytes (shared_of writing.interval writing.count writing.last key) key value in
     let more = length-append writing.entries entry in
@@ -111,7 +111,7 @@ keeps_writing writing key value w room =
     let one : length (cond (eqb (writing.count % writing.interval) 0) (length writing.entries ∷ []) []) ≤ 1 = at_most (eqb (writing.count % writing.interval) 0) in
     record {
       interval = w.interval;
-      size = omega (arith, finished_long (added writing key value), room);
+      size = omega (arith, finished_long (pair_added writing key value), room);
       count = omega (arith, more, some, w.count);
       restarts = omega (arith, more, some, w.restarts, one, length-append writing.restarts (cond (eqb (writing.count % writing.interval) 0) (length writing.entries ∷ []) []));
     }
@@ -144,7 +144,7 @@ short_form (suc most) n = either (ltb n 128) (short_form most (n / 128))
     either false h = omega arith
 
 -- what is finished with an entry more is no longer than this
-pub finished_short : (writing : Writing) (key value : List ℕ) → length (finished (added writing key value)) ≤ length writing.entries + length key + length value + 4 * length writing.restarts + 42
+pub finished_short : (writing : Writing) (key value : List ℕ) → length (finished_block (pair_added writing key value)) ≤ length writing.entries + length key + length value + 4 * length writing.restarts + 42
 finished_short writing key value =
     let s = shared_of writing.interval writing.count writing.last key in
     let a = varint s in
@@ -153,7 +153,7 @@ finished_short writing key value =
     let k = drop s key in
     let entry : length (entry_bytes s key value) ≤ 30 + length key + length value =
     omega (arith, short_form 10 s, short_form 10 (length key - s), short_form 10 (length value), length-append a b, length-append (a ++ b) c, length-append (a ++ b ++ c) k, length-append (a ++ b ++ c ++ k) value, length-drop s key) in
-    let w = added writing key value in
+    let w = pair_added writing key value in
     let due = cond (eqb (writing.count % writing.interval) 0) (length writing.entries ∷ []) [] in
     let one : length due ≤ 1 = at_most (eqb (writing.count % writing.interval) 0) in
     let zeros = or_zero w.restarts in

@@ -59,10 +59,10 @@ cell_at area before at = option_and_then (λ head. if fits area before head then
 -- ---- entries
 
 -- keys of data and index blocks are internal keys
-abbrev pub is_long : BlockKind → List ℕ → Bool
-is_long Data key = nat_le 8 (length key)
-is_long Index key = nat_le 8 (length key)
-is_long Plain key = true
+abbrev pub is_long_enough : BlockKind → List ℕ → Bool
+is_long_enough Data key = nat_le 8 (length key)
+is_long_enough Index key = nat_le 8 (length key)
+is_long_enough Plain key = true
 
 -- keys rise; in data blocks that is not looked at
 abbrev pub is_after : BlockKind → List ℕ → List ℕ → Bool
@@ -74,7 +74,7 @@ is_after Plain before key = is_lt (bytes_cmp before key)
 abbrev pub tested : BlockKind → List ℕ → ℕ → Option (Cell × ℕ) → Result (Cell × ℕ) BlockFault
 tested kind before at None = Err (Entry at)
 tested kind before at (Some found) =
-    if is_long kind found.0.key then (if (at == 0) || is_after kind before found.0.key then Ok found else Err (Order at)) else Err (Entry at)
+    if is_long_enough kind found.0.key then (if (at == 0) || is_after kind before found.0.key then Ok found else Err (Order at)) else Err (Entry at)
 
 abbrev pub next_cell : BlockKind → List ℕ → List ℕ → ℕ → Result (Cell × ℕ) BlockFault
 next_cell kind area before at = tested kind before at (cell_at area before at)
@@ -115,22 +115,22 @@ are_restarts [] = false
 are_restarts (first ∷ offsets) = (first == 0) && rises nat_lt (first ∷ offsets)
 
 -- the tail with so many restarts
-abbrev pub counted : List ℕ → ℕ → Option Tail
-counted bytes count =
+abbrev pub counted_tail : List ℕ → ℕ → Option Tail
+counted_tail bytes count =
     if nat_lt (length bytes) (4 * count + 4) then None
     else (if are_restarts (offsets_at bytes (length bytes - (4 * count + 4)) count)
     then Some (record { end = length bytes - (4 * count + 4); restarts = offsets_at bytes (length bytes - (4 * count + 4)) count }) else None)
 
 unfoldable pub tail_of : List ℕ → Option Tail
-tail_of bytes = if nat_lt (length bytes) 4 then None else counted bytes (from_le_bytes w32 (drop (length bytes - 4) bytes))
+tail_of bytes = if nat_lt (length bytes) 4 then None else counted_tail bytes (from_le_bytes w32 (drop (length bytes - 4) bytes))
 
 -- where the entries end
 abbrev pub tail_end : Option Tail → ℕ
 tail_end None = 0
 tail_end (Some tail) = tail.end
 
-abbrev pub end_of : List ℕ → ℕ
-end_of bytes = tail_end (tail_of bytes)
+abbrev pub entries_end : List ℕ → ℕ
+entries_end bytes = tail_end (tail_of bytes)
 
 -- the restarts behind them
 abbrev pub tail_restarts : Option Tail → List ℕ

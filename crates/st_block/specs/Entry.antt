@@ -2,16 +2,16 @@
 use Rattle.std.specs.Prelude.{ℕ, ◌+◌, ◌-◌, ◌*◌, ◌^◌, ◌<◌, ◌≤◌, ◌==◌, ◌&&◌, ◌≡◌, List, [], ◌∷◌, length, slice_range, if◌then◌else◌}
 use Rattle.std.specs.Prelude.{Result, Ok, Err, take, true, IsTrue, ◌++◌, ◌≢◌, ◌⊎◌}
 use Rattle.std.specs.List.{fold, list_all}
-use Rattle.st_block.specs.Block.{Cell, Head, block_of, cells_from, end_of, entries_of, is_long, is_restart, offsets_at, restarts_of}
+use Rattle.st_block.specs.Block.{Cell, Head, block_of, cells_from, entries_end, entries_of, is_long_enough, is_restart, offsets_at, restarts_of}
 use Rattle.st_base.specs.declared.faults.BlockFault.{BlockFault}
 use Rattle.st_base.specs.declared.faults.BlockFault.TheVariants.{Restarts, Entry}
 use Rattle.st_block.specs.declared.kind.BlockKind.TheVariants.{Data}
 use Rattle.st_block.specs.declared.kind.BlockKind.{BlockKind}
-use Rattle.st_block.specs.declared.open.Found.{Found}
+use Rattle.st_block.specs.declared.open.CellCounts.{CellCounts}
 use Rattle.st_block.specs.declared.open.Layout.{Layout}
 use Rattle.st_block.specs.declared.tail.Tail.{Tail}
 use Rattle.st_block.specs.declared.entry.Head.{Head as Lengths}
-use Rattle.st_block.specs.declared.entry.Read.{Read}
+use Rattle.st_block.specs.declared.entry.ReadCell.{ReadCell}
 
 abbrev pub head_of : Lengths → Head
 head_of lengths = record { shared = lengths.shared; unshared = lengths.unshared; value = lengths.value; behind = lengths.behind }
@@ -36,11 +36,11 @@ pub record IsFitting (area before : List ℕ) (at : ℕ) (head : Lengths) : Type
   pub within : head.behind + head.unshared + head.value ≤ length area
 
 -- an entry that was read at a place, with its key
-abbrev pub cell_of : List ℕ → ℕ → List ℕ → Read → Cell
+abbrev pub cell_of : List ℕ → ℕ → List ℕ → ReadCell → Cell
 cell_of area at key read = record { at = at; shared = read.shared; key = key; value = slice_range area read.value read.next }
 
 -- its value lies behind the place and within bytes of this length
-pub record IsRead (length at : ℕ) (read : Read) : Type 0 where
+pub record IsRead (length at : ℕ) (read : ReadCell) : Type 0 where
   pub behind : at < read.next
   pub value : read.value ≤ read.next
   pub within : read.next ≤ length
@@ -65,12 +65,12 @@ pub record AreRead (kind : BlockKind) (text area : List ℕ) (tail : Tail) (befo
   pub count : length front ≡ entries
   pub moved : entries ≤ at
   pub inside : at ≤ length area
-  pub long : at ≢ 0 → IsTrue (is_long kind before)
+  pub long : at ≢ 0 → IsTrue (is_long_enough kind before)
   pub restarts : fold pass (offsets_at text tail.end tail.count) front ≡ restarts_left text tail met
   pub within : met ≤ tail.count
 
 -- the entries before a tail were tested
-pub record IsTested (kind : BlockKind) (text area : List ℕ) (tail : Tail) (found : Found) (cells : List Cell) : Type 0 where
+pub record IsTested (kind : BlockKind) (text area : List ℕ) (tail : Tail) (found : CellCounts) (cells : List Cell) : Type 0 where
   pub cells_are : entries_of kind area ≡ Ok cells
   pub count : length cells ≡ found.entries
   pub met : fold pass (offsets_at text tail.end tail.count) cells ≡ restarts_left text tail found.met
@@ -83,15 +83,15 @@ pub record IsLayout (kind : BlockKind) (text : List ℕ) (layout : Layout) (cell
   pub first : offsets_at text layout.end layout.restarts ≡ 0 ∷ offsets_at text (layout.end + 4) (layout.restarts - 1)
   pub restarts : 0 < layout.entries → list_all (is_restart cells) (offsets_at text layout.end layout.restarts) ≡ true
   pub count : length cells ≡ layout.entries
-  pub end : layout.end ≡ end_of text
+  pub end : layout.end ≡ entries_end text
   pub offsets : offsets_at text layout.end layout.restarts ≡ restarts_of text
   pub room : layout.end + 4 * layout.restarts + 4 ≡ length text
 
 -- the counts of a block whose restarts fit, and of one whose restarts don't, with its fault
-abbrev pub MayStand : BlockKind → ℕ → Found → Type 0
+abbrev pub MayStand : BlockKind → ℕ → CellCounts → Type 0
 MayStand Data count found = (0 < found.entries) × (found.met ≡ count)
 MayStand kind count found = ((found.entries ≡ 0) × (count ≡ 1)) ⊎ ((0 < found.entries) × (found.met ≡ count))
 
-abbrev pub IsUnfit : BlockKind → ℕ → Found → BlockFault → Type 0
+abbrev pub IsUnfit : BlockKind → ℕ → CellCounts → BlockFault → Type 0
 IsUnfit Data count found fault = ((found.entries ≡ 0) × (fault ≡ Entry 0)) ⊎ ((0 < found.entries) × (found.met ≢ count) × (fault ≡ Restarts))
 IsUnfit kind count found fault = ((found.entries ≡ 0) × (count ≢ 1) × (fault ≡ Restarts)) ⊎ ((0 < found.entries) × (found.met ≢ count) × (fault ≡ Restarts))

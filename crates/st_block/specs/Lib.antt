@@ -1,6 +1,6 @@
 pub mod Block
 pub mod Entry
 pub mod InternalKey
-pub mod Place
+pub mod BlockContents
 pub mod Search
 pub mod Written

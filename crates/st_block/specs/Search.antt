@@ -3,7 +3,7 @@ use Rattle.std.specs.Prelude.{◌≡◌, ℕ, suc, ◌+◌, ◌-◌, ◌*◌, �
 use Rattle.std.specs.Int.{w32, from_le_bytes}
 use Rattle.st_block.specs.Block.{Cell, is_restart}
 use Rattle.st_block.specs.InternalKey.{is_key_before}
-use Rattle.st_block.specs.Place.{Contents, cells_at, cells_in}
+use Rattle.st_block.specs.BlockContents.{BlockContents, cells_at, cells_in}
 use Rattle.st_block.specs.declared.kind.BlockKind.{BlockKind}
 use Rattle.st_block.specs.declared.open.Layout.{Layout}
 
@@ -14,7 +14,7 @@ widest cells (from ∷ []) = length (cells_at from cells)
 widest cells (from ∷ next ∷ restarts) = max (length (cells_at from cells) - length (cells_at next cells)) (widest cells (next ∷ restarts))
 
 -- so many entries are read by halving the restarts and then walking at most from one to the next
-pub record IsShort (block : Contents) (reads : ℕ) : Type 0 where
+pub record IsShort (block : BlockContents) (reads : ℕ) : Type 0 where
   pub halvings : ℕ
   pub halved : 2 ^ halvings ≤ 2 * length block.restarts + 1
   pub walked : reads ≤ halvings + widest block.cells block.restarts + 1
@@ -27,7 +27,7 @@ pub record IsStart (kind : BlockKind) (text : List ℕ) (layout : Layout) (key :
 -- it is the last one, or the entry of the next one doesn't come before that place
 pub record IsLast (kind : BlockKind) (text : List ℕ) (layout : Layout) (key : List ℕ) (number at : ℕ) : Type 0 where
   pub low : ℕ
-  pub place : at ≡ from_le_bytes w32 (drop (layout.end + 4 * low) text)
+  pub offset : at ≡ from_le_bytes w32 (drop (layout.end + 4 * low) text)
   pub within : low < layout.restarts
   pub after : (suc low ≡ layout.restarts) ⊎ ((cell : Cell) (rest : List Cell) → cells_at (from_le_bytes w32 (drop (layout.end + 4 * suc low) text)) (cells_in kind (take layout.end text)) ≡ cell ∷ rest → is_key_before key number cell.key ≡ false)
 

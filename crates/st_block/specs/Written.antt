@@ -3,7 +3,7 @@ use Rattle.std.specs.Prelude.{◌≡◌, ◌≤◌, ◌<◌, ◌^◌, ℕ, ◌+�
 use Rattle.std.specs.List.{common_prefix_len, flat_map}
 use Rattle.st_code.specs.Fixed.{fixed32}
 use Rattle.st_code.specs.Varint.{varint}
-use Rattle.st_block.specs.Block.{Cell, is_after, is_long}
+use Rattle.st_block.specs.Block.{Cell, is_after, is_long_enough}
 use Rattle.st_block.specs.declared.kind.BlockKind.{BlockKind}
 
 -- an entry that shares so many bytes
@@ -49,8 +49,8 @@ abbrev pub shared_by : Writing → List ℕ → ℕ
 shared_by writing key = shared_of writing.interval writing.count writing.last key
 
 -- with an entry more
-abbrev pub added : Writing → List ℕ → List ℕ → Writing
-added writing key value = record {
+abbrev pub pair_added : Writing → List ℕ → List ℕ → Writing
+pair_added writing key value = record {
   interval = writing.interval;
   count = writing.count + 1;
   entries = writing.entries ++ entry_bytes (shared_by writing key) key value;
@@ -58,20 +58,20 @@ added writing key value = record {
   last = key;
 }
 
-abbrev pub last_key : List ℕ → List (List ℕ × List ℕ) → List ℕ
-last_key before [] = before
-last_key before (pair ∷ pairs) = last_key pair.0 pairs
+abbrev pub last_pair_key : List ℕ → List (List ℕ × List ℕ) → List ℕ
+last_pair_key before [] = before
+last_pair_key before (pair ∷ pairs) = last_pair_key pair.0 pairs
 
 -- these keys and values were added
-pub record Holds (writing : Writing) (pairs : List (List ℕ × List ℕ)) : Type 0 where
+pub record HoldsPairs (writing : Writing) (pairs : List (List ℕ × List ℕ)) : Type 0 where
   pub count : length pairs ≡ writing.count
   pub entries : writing.entries ≡ entries_bytes writing.interval 0 [] pairs
   pub restarts : writing.restarts ≡ restarts_of writing.interval 0 0 [] pairs
-  pub last : writing.last ≡ last_key [] pairs
+  pub last : writing.last ≡ last_pair_key [] pairs
 
 -- the block of what was added
-abbrev pub finished : Writing → List ℕ
-finished writing = with_tail writing.entries (or_zero writing.restarts)
+abbrev pub finished_block : Writing → List ℕ
+finished_block writing = with_tail writing.entries (or_zero writing.restarts)
 
 -- counts of a writer that fit 32 bits
 pub record IsWriting (writing : Writing) : Type 0 where
@@ -90,7 +90,7 @@ Appends old new = (more : List ℕ) × (new ≡ old ++ more)
 pub record FitsBlock (kind : BlockKind) (pair : List ℕ × List ℕ) : Type 0 where
   pub key : length pair.0 ≤ 65543
   pub value : length pair.1 ≤ 1048576
-  pub long : IsTrue (is_long kind pair.0)
+  pub long : IsTrue (is_long_enough kind pair.0)
 
 -- keys behind a key, in the order of the kind of block
 abbrev pub GoOn : BlockKind → List ℕ → List (List ℕ × List ℕ) → Type 0

@@ -30,18 +30,18 @@ pub struct Block {
 
 impl Model for Block {
     ghost use Rattle.std.specs.Prelude.{◌+◌, slice_range};
-    ghost use Rattle.st_block.specs.Place.{Contents, Keeps, contents_in};
+    ghost use Rattle.st_block.specs.BlockContents.{BlockContents, Keeps, block_contents_in};
 
-    ghost Value = { Contents };
+    ghost Value = { BlockContents };
 
-    ghost view = { λ block. contents_in block.kind (slice_range block.bytes.value block.from (block.from + block.size)) block.layout };
+    ghost view = { λ block. block_contents_in block.kind (slice_range block.bytes.value block.from (block.from + block.size)) block.layout };
 
     ghost invariant = { λ block. Keeps block.bytes.value block.from block.size block.kind block.layout };
 }
 
 impl Block {
     ghost use Rattle.st_block.specs.Block.{Cell, block_of};
-    ghost use Rattle.st_block.specs.Place.{Advances, Opens, Stands, Takes, cells_at, keys_rise, lower_place};
+    ghost use Rattle.st_block.specs.BlockContents.{Advances, Opens, IsReadableAt, TakesCell, cells_at, internal_keys_rise, lower_offset};
     ghost use Rattle.st_block.specs.Search.{IsShort};
 
     /// The block of this kind in the `size` bytes from the place `from` on, or its first fault: first of the restarts at its
@@ -92,7 +92,7 @@ impl Block {
     /// The place of the first entry, at which a reader stands with any key in its scratch.
     pub fn start(&self) -> usize
         ensures value { cells_at result self.now.cells ≡ self.now.cells }
-        ensures stands { (key : List ℕ) → Stands self.now result key }
+        ensures stands { (key : List ℕ) → IsReadableAt self.now result key }
     {
         let _layout = self.layout;
         0
@@ -101,8 +101,8 @@ impl Block {
     /// The entry at the place; its key is put into the scratch, and a reader then stands at the place behind it. None exactly
     /// at the end. It reads that one entry.
     pub fn read<'a>(&'a self, at: usize, scratch: &mut Scratch) -> Option<BlockEntry<'a>>
-        requires { Stands self.now at scratch.old }
-        ensures found { IfSome result (λ entry. ((cell : Cell) × Takes self.now at scratch.new entry.value.now entry.next cell)) }
+        requires { IsReadableAt self.now at scratch.old }
+        ensures found { IfSome result (λ entry. ((cell : Cell) × TakesCell self.now at scratch.new entry.value.now entry.next cell)) }
         ensures advances { IfSome result (λ entry. Advances self.now at entry.value.now entry.next) }
         ensures none { IfNone result ((cells_at at self.now.cells ≡ []) × (scratch.new ≡ scratch.old)) }
     {
@@ -118,9 +118,9 @@ impl Block {
     /// The place of the first entry that doesn't come before the key and the sequence number, or where all end; a reader then
     /// stands there. The keys are to rise as internal keys. `lower_counted` says how few entries it reads.
     pub fn lower(&self, key: &[u8], number: u64, scratch: &mut Scratch) -> usize
-        requires { IsTrue (keys_rise self.now.cells) }
-        ensures value { result ≡ lower_place self.now key.now number }
-        ensures stands { Stands self.now result scratch.new }
+        requires { IsTrue (internal_keys_rise self.now.cells) }
+        ensures value { result ≡ lower_offset self.now key.now number }
+        ensures stands { IsReadableAt self.now result scratch.new }
     {
         self.lower_from::<Brand>(key, number, scratch, Blank::new(1))
     }
@@ -134,9 +134,9 @@ impl Block {
         scratch: &mut Scratch,
         steps: &mut Steps<L>,
     ) -> usize
-        requires { IsTrue (keys_rise self.now.cells) }
-        ensures value { result ≡ lower_place self.now key.now number }
-        ensures stands { Stands self.now result scratch.new }
+        requires { IsTrue (internal_keys_rise self.now.cells) }
+        ensures value { result ≡ lower_offset self.now key.now number }
+        ensures stands { IsReadableAt self.now result scratch.new }
         ensures counted { steps.old ≤ steps.new }
         ensures short { IsShort self.now (steps.new - steps.old) }
     {
@@ -155,9 +155,9 @@ impl Block {
         requires name { blank.name ≡ L.name }
         requires parts { blank.parts ≡ L.parts }
         requires some { 0 < blank.parts }
-        requires rise { IsTrue (keys_rise self.now.cells) }
-        ensures value { result ≡ lower_place self.now key.now number }
-        ensures stands { Stands self.now result scratch.new }
+        requires rise { IsTrue (internal_keys_rise self.now.cells) }
+        ensures value { result ≡ lower_offset self.now key.now number }
+        ensures stands { IsReadableAt self.now result scratch.new }
     {
         let mut steps = Steps::<L>::start(blank);
         self.lower_counted(key, number, scratch, &mut steps)

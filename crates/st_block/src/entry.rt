@@ -48,7 +48,7 @@ pub(crate) fn fits(area: &[u8], before: &[u8], head: Head) -> bool
 
 /// An entry that was read: its key stands in the scratch.
 #[derive(Clone, Copy)]
-pub(crate) struct Read {
+pub(crate) struct ReadCell {
     /// How many bytes it shares with the key before.
     pub(crate) shared: usize,
     /// Where its value begins.
@@ -73,14 +73,14 @@ pub(crate) fn head_behind(area: &[u8], before: &[u8], at: usize) -> Option<Head>
 
 // The entry at the place, behind the key in the scratch; its key is put into the scratch. None, and the scratch is left
 // as it was, where no entry stands there.
-pub(crate) fn read_at(area: &[u8], at: usize, scratch: &mut Scratch) -> Option<Read>
+pub(crate) fn read_at(area: &[u8], at: usize, scratch: &mut Scratch) -> Option<ReadCell>
     ensures found { IfSome result (λ read. (cell_at area.now scratch.old at ≡ Some (cell_of area.now at scratch.new read, read.next)) × IsRead (length area.now) at read) }
     ensures none { IfNone result ((cell_at area.now scratch.old at ≡ None) × (scratch.new ≡ scratch.old)) }
 {
     let head = head_behind(area, scratch.as_slice(), at)?;
     let value = head.behind + head.unshared;
     scratch.keep_and_add(head.shared, &area[head.behind..value]);
-    Some(Read {
+    Some(ReadCell {
         shared: head.shared,
         value,
         next: value + head.value,

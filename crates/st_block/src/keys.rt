@@ -1,7 +1,7 @@
 ghost use Rattle.std.specs.Prelude.{◌≡◌, ◌+◌, ◌-◌, ◌<◌, ◌≤◌, ◌++◌, length, take, slice_index, IsTrue, List, ℕ};
 ghost use Rattle.std.specs.Ordering.{is_lt};
 ghost use Rattle.st_base.specs.Bytes.{bytes_cmp};
-ghost use Rattle.st_block.specs.Block.{is_after, is_long};
+ghost use Rattle.st_block.specs.Block.{is_after, is_long_enough};
 ghost use Rattle.st_block.specs.InternalKey.{internal_cmp, is_key_before, packed, user_key};
 
 use crate::kind::BlockKind;
@@ -41,14 +41,14 @@ pub(crate) fn is_key_before(internal: &[u8], key: &[u8], number: u64) -> bool
 }
 
 // The byte at the place of a key that shares its front with the key before: 0 past its end.
-fn byte_at(before: &[u8], shared: usize, others: &[u8], place: usize) -> u8
+fn byte_at(before: &[u8], shared: usize, others: &[u8], index: usize) -> u8
     requires { shared ≤ length before.now }
-    ensures { result ≡ slice_index (take shared before.now ++ others.now) place }
+    ensures { result ≡ slice_index (take shared before.now ++ others.now) index }
 {
-    if place < shared {
-        return before[place];
+    if index < shared {
+        return before[index];
     }
-    let behind = place - shared;
+    let behind = index - shared;
     if behind < others.len() {
         others[behind]
     } else {
@@ -70,9 +70,9 @@ fn cmp_fronts(
     ensures { result ≡ bytes_cmp (take front before.now) (take new_front (take shared before.now ++ others.now)) }
 {
     let shorter = front.min(new_front);
-    for place in 0..shorter {
-        let new = byte_at(before, shared, others, place);
-        let old = before[place];
+    for index in 0..shorter {
+        let new = byte_at(before, shared, others, index);
+        let old = before[index];
         if old != new {
             return old.cmp(&new);
         }
@@ -135,7 +135,7 @@ fn is_internal_after(before: &[u8], shared: usize, others: &[u8]) -> bool
 
 /// Whether a key of so many bytes is long enough for its kind of block.
 pub(crate) fn is_long(kind: BlockKind, bytes: usize) -> bool
-    ensures { (key : List ℕ) → length key ≡ bytes → result ≡ is_long kind key }
+    ensures { (key : List ℕ) → length key ≡ bytes → result ≡ is_long_enough kind key }
 {
     match kind {
         BlockKind::Data | BlockKind::Index => 8 <= bytes,
@@ -146,8 +146,8 @@ pub(crate) fn is_long(kind: BlockKind, bytes: usize) -> bool
 /// Whether the key that shares its front with the key before comes behind it, in its kind of block.
 pub(crate) fn is_after(kind: BlockKind, before: &[u8], shared: usize, others: &[u8]) -> bool
     requires shared { shared ≤ length before.now }
-    requires old { IsTrue (is_long kind before.now) }
-    requires new { IsTrue (is_long kind (take shared before.now ++ others.now)) }
+    requires old { IsTrue (is_long_enough kind before.now) }
+    requires new { IsTrue (is_long_enough kind (take shared before.now ++ others.now)) }
     requires room { shared + length others.now ≤ 65543 }
     ensures { result ≡ is_after kind before.now (take shared before.now ++ others.now) }
 {

@@ -1,7 +1,7 @@
 ghost use Rattle.std.specs.Prelude.{◌≡◌, ℕ, ◌<◌, ◌^◌, List, [], ◌∷◌, ◌++◌, IsTrue, Ok, length, map};
 ghost use Rattle.st_block.specs.Block.{Cell, block_of};
-ghost use Rattle.st_block.specs.Place.{keys_rise};
-ghost use Rattle.st_block.specs.Written.{Holds, MayWrite, Writing, added, cells_of, written_block};
+ghost use Rattle.st_block.specs.BlockContents.{internal_keys_rise};
+ghost use Rattle.st_block.specs.Written.{HoldsPairs, MayWrite, Writing, pair_added, cells_of, written_block};
 ghost use Rattle.st_block.specs.declared.kind.BlockKind.{BlockKind};
 ghost use Rattle.st_block.specs.declared.kind.BlockKind.TheVariants.{Index};
 
@@ -9,7 +9,7 @@ use st_code::numbers_read_again;
 
 /// Who adds an entry to a writer that holds some adds it behind them.
 pub fn writer_holds_what_is_added()
-    ensures { (writing : Writing) (pairs : List (List ℕ × List ℕ)) (key value : List ℕ) → Holds writing pairs → Holds (added writing key value) (pairs ++ (key, value) ∷ []) }
+    ensures { (writing : Writing) (pairs : List (List ℕ × List ℕ)) (key value : List ℕ) → HoldsPairs writing pairs → HoldsPairs (pair_added writing key value) (pairs ++ (key, value) ∷ []) }
 {}
 
 /// Opening a block that was written gives the entries that were added, where these are in the order of its kind.
@@ -23,5 +23,5 @@ pub fn written_block_opens()
 
 /// The keys of an index block that opens rise as internal keys.
 pub fn index_keys_rise()
-    ensures { (text : List ℕ) (cells : List Cell) → block_of Index text ≡ Ok cells → IsTrue (keys_rise cells) }
+    ensures { (text : List ℕ) (cells : List Cell) → block_of Index text ≡ Ok cells → IsTrue (internal_keys_rise cells) }
 {}

@@ -1,8 +1,8 @@
 ghost use Rattle.std.specs.Prelude.{◌≡◌, ◌≢◌, ◌+◌, ◌*◌, ◌≤◌, ◌++◌, length, take, IfErr, IfOk, OnOk, IsTrue, List, Ok, Err, slice_range};
-ghost use Rattle.st_block.specs.Block.{Cell, block_of, entries_of, is_long, next_cell, tail_of, restarts_fit};
+ghost use Rattle.st_block.specs.Block.{Cell, block_of, entries_of, is_long_enough, next_cell, tail_of, restarts_fit};
 ghost use Rattle.st_block.specs.Entry.{IsLayout, IsRead, IsUnfit, MayStand, IsTested, cell_of, pass, restarts_left};
 
-use crate::entry::{Read, head_behind};
+use crate::entry::{ReadCell, head_behind};
 use crate::keys::{is_after, is_long};
 use crate::kind::BlockKind;
 use crate::tail::{Tail, offset_at, tail_of};
@@ -10,7 +10,7 @@ use st_base::{BlockFault, Scratch};
 
 /// What testing the entries has counted.
 #[derive(Clone, Copy)]
-pub(crate) struct Found {
+pub(crate) struct CellCounts {
     pub(crate) entries: usize,
     /// How many restarts, from the first on, were entries that share nothing.
     pub(crate) met: usize,
@@ -30,9 +30,9 @@ fn next_cell(
     kind: BlockKind,
     at: usize,
     scratch: &mut Scratch,
-) -> Result<Read, BlockFault>
-    requires { at ≢ 0 → IsTrue (is_long kind scratch.old) }
-    ensures ok { IfOk result (λ read. (next_cell kind area.now scratch.old at ≡ Ok (cell_of area.now at scratch.new read, read.next)) × IsRead (length area.now) at read × IsTrue (is_long kind scratch.new)) }
+) -> Result<ReadCell, BlockFault>
+    requires { at ≢ 0 → IsTrue (is_long_enough kind scratch.old) }
+    ensures ok { IfOk result (λ read. (next_cell kind area.now scratch.old at ≡ Ok (cell_of area.now at scratch.new read, read.next)) × IsRead (length area.now) at read × IsTrue (is_long_enough kind scratch.new)) }
     ensures err { IfErr result (λ fault. next_cell kind area.now scratch.old at ≡ Err fault) }
 {
     let Some(head) = head_behind(area, scratch.as_slice(), at) else {
@@ -47,7 +47,7 @@ fn next_cell(
         return Err(BlockFault::Order(at as u64));
     }
     scratch.keep_and_add(head.shared, others);
-    Ok(Read {
+    Ok(ReadCell {
         shared: head.shared,
         value,
         next: value + head.value,
@@ -74,7 +74,7 @@ fn test_entries(
     tail: Tail,
     kind: BlockKind,
     scratch: &mut Scratch,
-) -> Result<Found, BlockFault>
+) -> Result<CellCounts, BlockFault>
     requires { tail.end + 4 * tail.count ≤ length text.now }
     ensures ok { IfOk result (λ found. ((cells : List Cell) × IsTested kind text.now (take tail.end text.now) tail found cells)) }
     ensures err { IfErr result (λ fault. entries_of kind (take tail.end text.now) ≡ Err fault) }
@@ -90,12 +90,12 @@ fn test_entries(
         entries += 1;
         at = read.next;
     }
-    Ok(Found { entries, met })
+    Ok(CellCounts { entries, met })
 }
 
 // Whether the restarts fit the entries: a data block has an entry, a block without entries has one restart, and every
 // restart is an entry that shares nothing.
-fn restarts_fit(kind: BlockKind, tail: Tail, found: Found) -> Result<(), BlockFault>
+fn restarts_fit(kind: BlockKind, tail: Tail, found: CellCounts) -> Result<(), BlockFault>
     ensures ok { OnOk result (MayStand kind tail.count found) }
     ensures err { IfErr result (λ fault. IsUnfit kind tail.count found fault) }
 {

@@ -31,8 +31,8 @@ fn are_restarts(text: &[u8], at: usize, count: usize) -> bool
     if last != 0 {
         return false;
     }
-    for place in 1..count {
-        let offset = offset_at(text, at + 4 * place);
+    for index in 1..count {
+        let offset = offset_at(text, at + 4 * index);
         if offset <= last {
             return false;
         }

@@ -2,10 +2,10 @@ ghost use Rattle.std.specs.Prelude.{◌≡◌, ℕ, [], ◌<◌, ◌+◌, ◌-�
 ghost use Rattle.std.specs.Int.{w32, from_le_bytes};
 ghost use Rattle.st_block.specs.Block.{Cell, cell_at};
 ghost use Rattle.st_block.specs.Entry.{IsLayout, IsRead};
-ghost use Rattle.st_block.specs.Place.{Stands, Takes, cells_at, cells_in, contents_in, keys_rise, lower_place};
+ghost use Rattle.st_block.specs.BlockContents.{IsReadableAt, TakesCell, cells_at, cells_in, block_contents_in, internal_keys_rise, lower_offset};
 ghost use Rattle.st_block.specs.Search.{IsLast, IsShort, IsStart};
 
-use crate::entry::{Read, head_at, read_at};
+use crate::entry::{ReadCell, head_at, read_at};
 use crate::keys::is_key_before;
 use crate::kind::BlockKind;
 use crate::open::Layout;
@@ -20,10 +20,10 @@ pub(crate) fn read_in(
     layout: Layout,
     at: usize,
     scratch: &mut Scratch,
-) -> Option<Read>
+) -> Option<ReadCell>
     requires lies { IsLayout kind text.now layout (cells_in kind (take layout.end text.now)) }
-    requires stands { Stands (contents_in kind text.now layout) at scratch.old }
-    ensures found { IfSome result (λ read. ((cell : Cell) × Takes (contents_in kind text.now layout) at scratch.new (slice_range (take layout.end text.now) read.value read.next) read.next cell) × IsRead (length (take layout.end text.now)) at read) }
+    requires stands { IsReadableAt (block_contents_in kind text.now layout) at scratch.old }
+    ensures found { IfSome result (λ read. ((cell : Cell) × TakesCell (block_contents_in kind text.now layout) at scratch.new (slice_range (take layout.end text.now) read.value read.next) read.next cell) × IsRead (length (take layout.end text.now)) at read) }
     ensures none { IfNone result ((cells_at at (cells_in kind (take layout.end text.now)) ≡ []) × (scratch.new ≡ scratch.old)) }
 {
     if at == layout.end {
@@ -91,11 +91,11 @@ pub(crate) fn lower_in<L: Ledger>(
     steps: &mut Steps<L>,
 ) -> usize
     requires lies { IsLayout kind text.now layout (cells_in kind (take layout.end text.now)) }
-    requires order { IsTrue (keys_rise (cells_in kind (take layout.end text.now))) }
-    ensures value { result ≡ lower_place (contents_in kind text.now layout) key.now number }
-    ensures stands { Stands (contents_in kind text.now layout) result scratch.new }
+    requires order { IsTrue (internal_keys_rise (cells_in kind (take layout.end text.now))) }
+    ensures value { result ≡ lower_offset (block_contents_in kind text.now layout) key.now number }
+    ensures stands { IsReadableAt (block_contents_in kind text.now layout) result scratch.new }
     ensures counted { steps.old ≤ steps.new }
-    ensures short { IsShort (contents_in kind text.now layout) (steps.new - steps.old) }
+    ensures short { IsShort (block_contents_in kind text.now layout) (steps.new - steps.old) }
 {
     if layout.entries == 0 {
         return layout.end;

@@ -13,11 +13,11 @@ use std::marker::Model;
 fn common_front(one: &[u8], other: &[u8]) -> usize
     ensures { result ≡ common_prefix_len nat_eq one.now other.now }
 {
-    let mut place = 0;
-    while place < one.len() && place < other.len() && one[place] == other[place] {
-        place += 1;
+    let mut index = 0;
+    while index < one.len() && index < other.len() && one[index] == other[index] {
+        index += 1;
     }
-    place
+    index
 }
 
 // Puts three numbers at the end that have one byte each.
@@ -176,7 +176,7 @@ fn push_restart(
     Ok(())
 }
 
-/// A writer of one block. Contracts see what it has so far; `Holds` says which keys and values these are.
+/// A writer of one block. Contracts see what it has so far; `HoldsPairs` says which keys and values these are.
 #[derive(Drop)]
 pub struct BlockWriter {
     interval: usize,
@@ -197,13 +197,13 @@ impl Model for BlockWriter {
 }
 
 impl BlockWriter {
-    ghost use Rattle.st_block.specs.Written.{Holds, added, finished, written_block};
+    ghost use Rattle.st_block.specs.Written.{HoldsPairs, pair_added, finished_block, written_block};
 
     /// A writer without entries, with a restart at every so many of them, from the first on.
     pub fn new(alloc: Global, restart: u32) -> Result<BlockWriter, AllocError>
         requires { 0 < restart }
         ensures interval { IfOk result (λ writer. writer.interval ≡ restart) }
-        ensures holds { IfOk result (λ writer. Holds writer []) }
+        ensures holds { IfOk result (λ writer. HoldsPairs writer []) }
     {
         Ok(BlockWriter {
             interval: restart as usize,
@@ -219,8 +219,8 @@ impl BlockWriter {
     pub fn add(&mut self, key: &[u8], value: &[u8]) -> Result<(), AllocError>
         requires key { length key.now ≤ 65543 }
         requires value { length value.now ≤ 1048576 }
-        requires room { length (finished (added self.old key.now value.now)) < 2 ^ 32 }
-        ensures ok { OnOk result (self.new ≡ added self.old key.now value.now) }
+        requires room { length (finished_block (pair_added self.old key.now value.now)) < 2 ^ 32 }
+        ensures ok { OnOk result (self.new ≡ pair_added self.old key.now value.now) }
         ensures err { OnErr result (self.new ≡ self.old) }
     {
         let shared = shared_with(self.last.as_slice(), key, self.count, self.interval);
@@ -245,7 +245,7 @@ impl BlockWriter {
     pub fn has_room(&self, key: &[u8], value: &[u8]) -> bool
         ensures key { IsTrue result → length key.now ≤ 65543 }
         ensures value { IsTrue result → length value.now ≤ 1048576 }
-        ensures room { IsTrue result → length (finished (added self.now key.now value.now)) < 2 ^ 32 }
+        ensures room { IsTrue result → length (finished_block (pair_added self.now key.now value.now)) < 2 ^ 32 }
         ensures roomy { length key.now ≤ 65543 → length value.now ≤ 1048576
             → length self.now.entries + length key.now + length value.now + 4 * length self.now.restarts + 64 < 2 ^ 32 → IsTrue result }
     {
@@ -264,8 +264,8 @@ impl BlockWriter {
 
     /// The block of what was added.
     pub fn finish(&self, alloc: Global) -> Result<Bytes, AllocError>
-        ensures value { IfOk result (λ bytes. bytes ≡ finished self.now) }
-        ensures written { IfOk result (λ bytes. (pairs : List (List ℕ × List ℕ)) → Holds self.now pairs → bytes ≡ written_block self.now.interval pairs) }
+        ensures value { IfOk result (λ bytes. bytes ≡ finished_block self.now) }
+        ensures written { IfOk result (λ bytes. (pairs : List (List ℕ × List ℕ)) → HoldsPairs self.now pairs → bytes ≡ written_block self.now.interval pairs) }
     {
         let mut bytes = Bytes::new(alloc);
         bytes.extend_from_slice(self.entries.as_slice())?;
@@ -299,7 +299,7 @@ impl BlockWriter {
     pub fn size_with(&self, key: &[u8], value: &[u8]) -> usize
         requires key { length key.now ≤ 65543 }
         requires value { length value.now ≤ 1048576 }
-        ensures size { result ≡ length (added self.now key.now value.now).entries }
+        ensures size { result ≡ length (pair_added self.now key.now value.now).entries }
         ensures within { result ≤ 2 ^ 33 }
     {
         let shared = shared_with(self.last.as_slice(), key, self.count, self.interval);
@@ -310,7 +310,7 @@ impl BlockWriter {
     pub fn finished_size_with(&self, key: &[u8], value: &[u8]) -> usize
         requires key { length key.now ≤ 65543 }
         requires value { length value.now ≤ 1048576 }
-        ensures size { result ≡ length (finished (added self.now key.now value.now)) }
+        ensures size { result ≡ length (finished_block (pair_added self.now key.now value.now)) }
         ensures within { result ≤ 2 ^ 37 }
     {
         let restarts = restarts_with(self.restarts.len(), self.count, self.interval);
@@ -319,7 +319,7 @@ impl BlockWriter {
 
     /// How many bytes `finish` gives.
     pub fn finished_size(&self) -> usize
-        ensures size { result ≡ length (finished self.now) }
+        ensures size { result ≡ length (finished_block self.now) }
         ensures within { result ≤ 2 ^ 37 }
     {
         self.entries.len() + tail_size(self.restarts.len())
@@ -329,8 +329,8 @@ impl BlockWriter {
     pub fn finish_with(&self, alloc: Global, key: &[u8], value: &[u8]) -> Result<Bytes, AllocError>
         requires key { length key.now ≤ 65543 }
         requires value { length value.now ≤ 1048576 }
-        requires room { length (finished (added self.now key.now value.now)) < 2 ^ 32 }
-        ensures { IfOk result (λ bytes. bytes ≡ finished (added self.now key.now value.now)) }
+        requires room { length (finished_block (pair_added self.now key.now value.now)) < 2 ^ 32 }
+        ensures { IfOk result (λ bytes. bytes ≡ finished_block (pair_added self.now key.now value.now)) }
     {
         let shared = shared_with(self.last.as_slice(), key, self.count, self.interval);
         let mut restarts = List::from_slice(alloc, self.restarts.as_slice())?;

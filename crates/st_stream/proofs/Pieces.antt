@@ -3,11 +3,11 @@ use Rattle.std.proofs.Common.{◌≡◌, ◌≤◌, ◌+◌, ◌-◌, ℕ, List,
 use Rattle.std.proofs.Math.Seq.{take-add}
 use Rattle.std.proofs.lemmas.List.{take-take}
 use Rattle.std.proofs.lemmas.Slice.{between_to_end}
-use Rattle.st_stream.specs.Sink.{Appends}
-use Rattle.st_stream.specs.Inputs.{InputsTold, ReadsAt, Stay}
+use Rattle.st_stream.specs.Sink.{AppendsFirst}
+use Rattle.st_stream.specs.Inputs.{InputsTold, ReadsAt, InputsUntouched}
 
 -- the first n of what is left, appended behind the first `done`
-pub appends_more : (before now after bytes : List ℕ) (done n : ℕ) → Appends before now bytes done → Appends now after (take (length bytes - done) (drop done bytes)) n → Appends before after bytes (done + n)
+pub appends_more : (before now after bytes : List ℕ) (done n : ℕ) → AppendsFirst before now bytes done → AppendsFirst now after (take (length bytes - done) (drop done bytes)) n → AppendsFirst before after bytes (done + n)
 appends_more before now after bytes done n first then =
     let all : take (length bytes - done) (drop done bytes) ≡ drop done bytes = between_to_end bytes done (length bytes) (omega arith) in
     let last : after ≡ now ++ take n (drop done bytes) = rw all at then in
@@ -20,7 +20,7 @@ reads_more file had old new at n kept le first reads =
     rw (take-add at kept file, first, same)
 
 -- files that stay in each of two steps
-pub stay_trans : (a b c : InputsTold) → Stay a b → Stay b c → Stay a c
+pub stay_trans : (a b c : InputsTold) → InputsUntouched a b → InputsUntouched b c → InputsUntouched a c
 stay_trans a b c first then = record {
   known = then.known ∙ first.known;
   file = then.file ∙ first.file;

@@ -9,7 +9,7 @@ file_read limit None = Missing
 file_read limit (Some bytes) = if nat_le (length bytes) limit then Whole bytes else TooLong
 
 -- what was read has at most `limit` bytes
-abbrev pub IsWithin : ℕ → FileRead → Type 0
-IsWithin limit Missing = Unit {0}
-IsWithin limit TooLong = Unit {0}
-IsWithin limit (Whole bytes) = length bytes ≤ limit
+abbrev pub IsFileWithin : ℕ → FileRead → Type 0
+IsFileWithin limit Missing = Unit {0}
+IsFileWithin limit TooLong = Unit {0}
+IsFileWithin limit (Whole bytes) = length bytes ≤ limit

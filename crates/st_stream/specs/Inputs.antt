@@ -16,7 +16,7 @@ bytes_of None = []
 bytes_of (Some bytes) = bytes
 
 -- the files are as they were, and the count hasn't fallen
-pub record Stay (before after : InputsTold) : Type 0 where
+pub record InputsUntouched (before after : InputsTold) : Type 0 where
   pub known : after.known ≡ before.known
   pub file : after.file ≡ before.file
   pub faults : before.faults ≤ after.faults

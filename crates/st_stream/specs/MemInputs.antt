@@ -9,9 +9,9 @@ abbrev pub first_named : List InputFile → List ℕ → Option InputFile
 first_named files name = find (λ file. same file.name name) files
 
 -- the bytes of the first file of that name
-abbrev pub file_of : List InputFile → List ℕ → Option (List ℕ)
-file_of files name = option_map (λ file. file.bytes) (first_named files name)
+abbrev pub file_named : List InputFile → List ℕ → Option (List ℕ)
+file_named files name = option_map (λ file. file.bytes) (first_named files name)
 
 -- all is told of files in memory
-abbrev pub told_of : List InputFile → ℕ → InputsTold
-told_of files faults = record { known = true; file = file_of files; faults = faults }
+abbrev pub inputs_told_of : List InputFile → ℕ → InputsTold
+inputs_told_of files faults = record { known = true; file = file_named files; faults = faults }

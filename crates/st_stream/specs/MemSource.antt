@@ -5,12 +5,12 @@ use Rattle.st_stream.specs.declared.schedule.Schedule.{Schedule}
 use Rattle.st_stream.specs.declared.mem_source.MemSource.{MemSource}
 
 -- all is told of a source in memory
-abbrev pub told_of : List ℕ → ℕ → SourceTold
-told_of left faults = record { known = true; left = left; faults = faults }
+abbrev pub source_told_of : List ℕ → ℕ → SourceTold
+source_told_of left faults = record { known = true; left = left; faults = faults }
 
 -- the bytes behind those that were given are left
 abbrev pub mem_source_told : MemSource → SourceTold
-mem_source_told source = told_of (drop source.given source.bytes) source.faults
+mem_source_told source = source_told_of (drop source.given source.bytes) source.faults
 
 -- the calls that have come and that are to fail
 abbrev pub mem_source_calls : MemSource → Schedule

@@ -10,9 +10,9 @@ pub record SinkTold : Type 0 where
   pub faults : ℕ
 
 -- the first n of these bytes were appended
-abbrev pub Appends : List ℕ → List ℕ → List ℕ → ℕ → Type 0
-Appends before after bytes n = after ≡ before ++ take n bytes
+abbrev pub AppendsFirst : List ℕ → List ℕ → List ℕ → ℕ → Type 0
+AppendsFirst before after bytes n = after ≡ before ++ take n bytes
 
 -- some of these bytes were appended, from the first on
 abbrev pub AppendsPrefix : List ℕ → List ℕ → List ℕ → Type 0
-AppendsPrefix before after bytes = (n : ℕ) × (n ≤ length bytes) × Appends before after bytes n
+AppendsPrefix before after bytes = (n : ℕ) × (n ≤ length bytes) × AppendsFirst before after bytes n

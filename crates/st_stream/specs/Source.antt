@@ -12,7 +12,7 @@ pub record SourceTold : Type 0 where
 
 -- The bytes that were left are the first n of the buffer, and then those that are left now. The rest of the buffer is
 -- as it was. Nothing comes only into an empty buffer, or where nothing is left.
-pub record Takes (before after old new : List ℕ) (n : ℕ) : Type 0 where
+pub record TakesBytes (before after old new : List ℕ) (n : ℕ) : Type 0 where
   pub front : take n new ++ after ≡ before
   pub end : n ≡ 0 → 0 < length old → before ≡ []
   pub rest : drop n new ≡ drop n old

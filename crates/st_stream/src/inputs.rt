@@ -1,7 +1,7 @@
 ghost use Rattle.std.specs.Prelude.{◌≡◌, ◌≤◌, List, ℕ, length, option_map, IfOk, OnErr, IsTrue};
 ghost use Rattle.st_base.specs.Names.{is_name};
 ghost use Rattle.st_base.specs.Count.{Rose, greatest_count};
-ghost use Rattle.st_stream.specs.Inputs.{InputsTold, Stay, ReadsAt, bytes_of};
+ghost use Rattle.st_stream.specs.Inputs.{InputsTold, InputsUntouched, ReadsAt, bytes_of};
 
 use crate::Failed;
 
@@ -18,7 +18,7 @@ pub trait Inputs {
         requires { IsTrue (is_name name.now) }
         ensures size { IsTrue (tells self.old).known → IfOk result (λ size. size ≡ option_map length ((tells self.old).file name.now)) }
         ensures failed { OnErr result (Rose (tells self.old).faults (tells self.new).faults) }
-        ensures stay { Stay (tells self.old) (tells self.new) };
+        ensures untouched { InputsUntouched (tells self.old) (tells self.new) };
 
     /// Reads the bytes of a file from `at` on into the buffer, and answers how many came. 0 for a buffer that isn't
     /// empty is the file's end. A file that isn't there has no bytes.
@@ -27,7 +27,7 @@ pub trait Inputs {
         ensures bytes { IsTrue (tells self.old).known → IfOk result (λ n. ReadsAt (bytes_of ((tells self.old).file name.now)) at buffer.old buffer.new n) }
         ensures within { IfOk result (λ n. n ≤ length buffer.old) }
         ensures failed { OnErr result (Rose (tells self.old).faults (tells self.new).faults) }
-        ensures stay { Stay (tells self.old) (tells self.new) };
+        ensures untouched { InputsUntouched (tells self.old) (tells self.new) };
 
     /// The count stands still at the greatest number of 64 bits.
     ghost counted: { (inputs : Self) → (tells inputs).faults ≤ greatest_count };

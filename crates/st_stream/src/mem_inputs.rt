@@ -2,9 +2,9 @@ ghost use Rattle.std.specs.Prelude.{◌≡◌, ◌≤◌, ◌-◌, List as Items
 ghost use Rattle.std.specs.Option.{option_copied};
 ghost use Rattle.st_base.specs.Names.{is_name};
 ghost use Rattle.st_base.specs.Count.{Rose, greatest_count};
-ghost use Rattle.st_stream.specs.Inputs.{Stay, ReadsAt, bytes_of};
+ghost use Rattle.st_stream.specs.Inputs.{InputsUntouched, ReadsAt, bytes_of};
 ghost use Rattle.st_stream.specs.Schedule.{CountsCall, fails_next};
-ghost use Rattle.st_stream.specs.MemInputs.{file_of};
+ghost use Rattle.st_stream.specs.MemInputs.{file_named};
 
 use crate::schedule::{Schedule, raised};
 use crate::{Failed, Inputs};
@@ -28,12 +28,12 @@ pub struct MemInputs {
 }
 
 impl MemInputs {
-    ghost use Rattle.st_stream.specs.MemInputs.{told_of};
+    ghost use Rattle.st_stream.specs.MemInputs.{inputs_told_of};
     ghost use Rattle.st_stream.specs.MemInputsState.{mem_inputs_told, mem_inputs_calls};
 
     /// These files, of which the first of a name counts. The calls of these numbers, counted from 1, are to fail.
     pub fn new(files: List<InputFile>, failing: List<u64>) -> MemInputs
-        ensures told { mem_inputs_told result ≡ told_of files 0 }
+        ensures told { mem_inputs_told result ≡ inputs_told_of files 0 }
         ensures failing { (mem_inputs_calls result).failing ≡ failing }
         ensures first { (mem_inputs_calls result).calls ≡ 0 }
     {
@@ -61,7 +61,7 @@ impl MemInputs {
 }
 
 impl Inputs for MemInputs {
-    ghost use Rattle.st_stream.specs.MemInputs.{file_of};
+    ghost use Rattle.st_stream.specs.MemInputs.{file_named};
     ghost use Rattle.st_stream.specs.MemInputsState.{mem_inputs_told, mem_inputs_calls};
 
     ghost tells = { mem_inputs_told };
@@ -72,7 +72,7 @@ impl Inputs for MemInputs {
         requires { IsTrue (is_name name.now) }
         ensures size { IsTrue (mem_inputs_told self.old).known → IfOk result (λ size. size ≡ option_map length ((mem_inputs_told self.old).file name.now)) }
         ensures failed { OnErr result (Rose (mem_inputs_told self.old).faults (mem_inputs_told self.new).faults) }
-        ensures stay { Stay (mem_inputs_told self.old) (mem_inputs_told self.new) }
+        ensures untouched { InputsUntouched (mem_inputs_told self.old) (mem_inputs_told self.new) }
         ensures listed { is_err result ≡ fails_next (mem_inputs_calls self.old) }
         ensures counts { CountsCall (mem_inputs_calls self.old) (mem_inputs_calls self.new) }
     {
@@ -88,7 +88,7 @@ impl Inputs for MemInputs {
         ensures bytes { IsTrue (mem_inputs_told self.old).known → IfOk result (λ n. ReadsAt (bytes_of ((mem_inputs_told self.old).file name.now)) at buffer.old buffer.new n) }
         ensures within { IfOk result (λ n. n ≤ length buffer.old) }
         ensures failed { OnErr result (Rose (mem_inputs_told self.old).faults (mem_inputs_told self.new).faults) }
-        ensures stay { Stay (mem_inputs_told self.old) (mem_inputs_told self.new) }
+        ensures untouched { InputsUntouched (mem_inputs_told self.old) (mem_inputs_told self.new) }
         ensures all { IfOk result (λ n. n ≡ min (length buffer.old) (length (bytes_of ((mem_inputs_told self.old).file name.now)) - at)) }
         ensures listed { is_err result ≡ fails_next (mem_inputs_calls self.old) }
         ensures counts { CountsCall (mem_inputs_calls self.old) (mem_inputs_calls self.new) }
@@ -103,7 +103,7 @@ impl Inputs for MemInputs {
 
 // The bytes of the first file of that name.
 fn bytes_named<'a>(files: &'a [InputFile], name: &str) -> Option<&'a [u8]>
-    ensures { option_map (λ bytes. bytes.now) result ≡ file_of files.now name.now }
+    ensures { option_map (λ bytes. bytes.now) result ≡ file_named files.now name.now }
 {
     let file = files
         .iter()

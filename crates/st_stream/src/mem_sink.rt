@@ -1,6 +1,6 @@
 ghost use Rattle.std.specs.Prelude.{◌≡◌, ◌≤◌, ◌<◌, List as Items, ℕ, [], length, IfOk, OnOk, OnErr, IsErr, IsTrue, IsFalse};
 ghost use Rattle.st_base.specs.Count.{Rose, greatest_count};
-ghost use Rattle.st_stream.specs.Sink.{Appends};
+ghost use Rattle.st_stream.specs.Sink.{AppendsFirst};
 ghost use Rattle.st_stream.specs.Schedule.{CountsCall, fails_next};
 
 use crate::schedule::{Schedule, raised};
@@ -62,8 +62,8 @@ impl Sink for MemSink {
     ghost counted = { λ sink. sink.small };
 
     fn write(&mut self, bytes: &[u8]) -> Result<usize, Failed>
-        ensures written { IsTrue (mem_sink_told self.old).known → IfOk result (Appends (mem_sink_told self.old).written (mem_sink_told self.new).written bytes.now) }
-        ensures unwritten { IsTrue (mem_sink_told self.old).known → OnErr result ((mem_sink_told self.new).written ≡ (mem_sink_told self.old).written) }
+        ensures written { IsTrue (mem_sink_told self.old).known → IfOk result (AppendsFirst (mem_sink_told self.old).written (mem_sink_told self.new).written bytes.now) }
+        ensures untouched { IsTrue (mem_sink_told self.old).known → OnErr result ((mem_sink_told self.new).written ≡ (mem_sink_told self.old).written) }
         ensures within { IfOk result (λ n. n ≤ length bytes.now) }
         ensures some { IfOk result (λ n. 0 < length bytes.now → 0 < n) }
         ensures failed { OnErr result (Rose (mem_sink_told self.old).faults (mem_sink_told self.new).faults) }

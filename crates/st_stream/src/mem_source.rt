@@ -1,6 +1,6 @@
 ghost use Rattle.std.specs.Prelude.{◌≡◌, ◌≤◌, ◌<◌, List as Items, ℕ, length, min, IfOk, OnErr, IsTrue, is_err};
 ghost use Rattle.st_base.specs.Count.{Rose, greatest_count};
-ghost use Rattle.st_stream.specs.Source.{Takes};
+ghost use Rattle.st_stream.specs.Source.{TakesBytes};
 ghost use Rattle.st_stream.specs.Schedule.{CountsCall, fails_next};
 
 use crate::schedule::{Schedule, raised};
@@ -20,11 +20,11 @@ pub struct MemSource {
 }
 
 impl MemSource {
-    ghost use Rattle.st_stream.specs.MemSource.{told_of, mem_source_told, mem_source_calls};
+    ghost use Rattle.st_stream.specs.MemSource.{source_told_of, mem_source_told, mem_source_calls};
 
     /// A source in which these bytes are left. The calls of these numbers, counted from 1, are to fail.
     pub fn new(bytes: Bytes, failing: List<u64>) -> MemSource
-        ensures told { mem_source_told result ≡ told_of bytes 0 }
+        ensures told { mem_source_told result ≡ source_told_of bytes 0 }
         ensures failing { (mem_source_calls result).failing ≡ failing }
         ensures first { (mem_source_calls result).calls ≡ 0 }
     {
@@ -45,8 +45,8 @@ impl Source for MemSource {
     ghost counted = { λ source. source.small };
 
     fn read(&mut self, buffer: &mut [u8]) -> Result<usize, Failed>
-        ensures taken { IsTrue (mem_source_told self.old).known → IfOk result (Takes (mem_source_told self.old).left (mem_source_told self.new).left buffer.old buffer.new) }
-        ensures untaken { IsTrue (mem_source_told self.old).known → OnErr result ((mem_source_told self.new).left ≡ (mem_source_told self.old).left) }
+        ensures taken { IsTrue (mem_source_told self.old).known → IfOk result (TakesBytes (mem_source_told self.old).left (mem_source_told self.new).left buffer.old buffer.new) }
+        ensures untouched { IsTrue (mem_source_told self.old).known → OnErr result ((mem_source_told self.new).left ≡ (mem_source_told self.old).left) }
         ensures within { IfOk result (λ n. n ≤ length buffer.old) }
         ensures failed { OnErr result (Rose (mem_source_told self.old).faults (mem_source_told self.new).faults) }
         ensures known { (mem_source_told self.new).known ≡ (mem_source_told self.old).known }

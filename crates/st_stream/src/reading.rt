@@ -1,8 +1,8 @@
 ghost use Rattle.std.specs.Prelude.{◌≡◌, ◌+◌, ◌<◌, ◌≤◌, ◌^◌, [], List, ℕ, length, min, IfOk, IsErrOf, IsTrue};
 ghost use Rattle.st_base.specs.Names.{is_name};
 ghost use Rattle.st_base.specs.Count.{Rose};
-ghost use Rattle.st_stream.specs.Inputs.{Stay, bytes_of};
-ghost use Rattle.st_stream.specs.FileRead.{file_read, IsWithin};
+ghost use Rattle.st_stream.specs.Inputs.{InputsUntouched, bytes_of};
+ghost use Rattle.st_stream.specs.FileRead.{file_read, IsFileWithin};
 ghost use Rattle.st_stream.specs.declared.reading.ReadFault.TheVariants.{Failed as failed_read, OutOfMemory as no_memory};
 
 use crate::{Failed, Inputs};
@@ -59,9 +59,9 @@ pub fn read_file<I: Inputs>(
 ) -> Result<FileRead, ReadFault>
     requires named { IsTrue (is_name name.now) }
     ensures read { IsTrue (I.tells inputs.old).known → IfOk result (λ read. read ≡ file_read limit ((I.tells inputs.old).file name.now)) }
-    ensures within { IfOk result (λ read. IsWithin limit read) }
+    ensures within { IfOk result (λ read. IsFileWithin limit read) }
     ensures failed { IsErrOf result ReadFault.Failed → Rose (I.tells inputs.old).faults (I.tells inputs.new).faults }
-    ensures stay { Stay (I.tells inputs.old) (I.tells inputs.new) }
+    ensures untouched { InputsUntouched (I.tells inputs.old) (I.tells inputs.new) }
 {
     match inputs.size(name)? {
         None => Ok(FileRead::Missing),
@@ -81,7 +81,7 @@ fn read_bytes<I: Inputs>(
     ensures bytes { IsTrue (I.tells inputs.old).known → size ≡ length (bytes_of ((I.tells inputs.old).file name.now)) → IfOk result (λ bytes. bytes ≡ bytes_of ((I.tells inputs.old).file name.now)) }
     ensures within { IfOk result (λ bytes. length bytes ≤ size) }
     ensures failed { IsErrOf result ReadFault.Failed → Rose (I.tells inputs.old).faults (I.tells inputs.new).faults }
-    ensures stay { Stay (I.tells inputs.old) (I.tells inputs.new) }
+    ensures untouched { InputsUntouched (I.tells inputs.old) (I.tells inputs.new) }
 {
     let mut piece = vec![in alloc; 0; PIECE_BYTES]?;
     let mut bytes = Bytes::new(alloc);
@@ -103,7 +103,7 @@ fn read_pieces<I: Inputs>(
     ensures bytes { IsTrue (I.tells inputs.old).known → size ≡ length (bytes_of ((I.tells inputs.old).file name.now)) → IfOk result (λ _. bytes.new ≡ bytes_of ((I.tells inputs.old).file name.now)) }
     ensures within { length bytes.new ≤ size }
     ensures failed { IsErrOf result ReadFault.Failed → Rose (I.tells inputs.old).faults (I.tells inputs.new).faults }
-    ensures stay { Stay (I.tells inputs.old) (I.tells inputs.new) }
+    ensures untouched { InputsUntouched (I.tells inputs.old) (I.tells inputs.new) }
 {
     let mut left = size;
     while left > 0 {

@@ -25,7 +25,7 @@ impl Schedule {
 /// The count after one more fault.
 pub fn raised(count: u64) -> u64
     ensures rose { Rose count result }
-    ensures kept { count ≤ result }
+    ensures no_less { count ≤ result }
 {
     count.saturating_add(1)
 }

@@ -7,9 +7,9 @@ use Rattle.std.proofs.lemmas.List.{drop-take, length-append, map-append, take-ap
 use Rattle.st_base.specs.declared.entry.Entry.{Entry}
 use Rattle.st_base.specs.declared.entry.Mark.{Mark}
 use Rattle.st_base.specs.declared.entry.Mark.TheVariants.{Put}
-use Rattle.st_table.specs.EntryArena.{EndsValue, Lies, entry_in, mark_in, numbered}
+use Rattle.st_table.specs.EntryArena.{EndsValue, Lies, entry_in, mark_in, slot_numbered}
 use Rattle.st_table.specs.Table.{act_under, acting}
-use Rattle.st_table.specs.declared.entry_arena.EntryPlace.{EntryPlace}
+use Rattle.st_table.specs.declared.entry_arena.EntrySlot.{EntrySlot}
 use Rattle.st_table.proofs.Acting.{act_other}
 
 -- ---- growing: what the old arena held is the front of the new one
@@ -38,27 +38,27 @@ start_within : (size start : ℕ) (end : Option ℕ) → EndsValue size start en
 start_within size start None h = h
 start_within size start (Some end) h = omega (arith, h.0, h.1)
 
-entry_kept : (old new : List ℕ) (place : EntryPlace) → take (length old) new ≡ old → Lies (length old) place → entry_in new place ≡ entry_in old place
-entry_kept old new place e h =
-    let at = place.key_end in
-    ap (λ (l : List ℕ). let x : Entry = record { key = l; number = place.number; mark = mark_in new at place.value_end } in x)
-    (slice_kept old new place.start at e h.key_ends (start_within (length old) at place.value_end h.value_ends))
-    ∙ ap (λ (m : Mark). let x : Entry = record { key = slice_range old place.start at; number = place.number; mark = m } in x) (mark_kept old new at place.value_end e h.value_ends)
+entry_kept : (old new : List ℕ) (slot : EntrySlot) → take (length old) new ≡ old → Lies (length old) slot → entry_in new slot ≡ entry_in old slot
+entry_kept old new slot e h =
+    let at = slot.key_end in
+    ap (λ (l : List ℕ). let x : Entry = record { key = l; number = slot.number; mark = mark_in new at slot.value_end } in x)
+    (slice_kept old new slot.start at e h.key_ends (start_within (length old) at slot.value_end h.value_ends))
+    ∙ ap (λ (m : Mark). let x : Entry = record { key = slice_range old slot.start at; number = slot.number; mark = m } in x) (mark_kept old new at slot.value_end e h.value_ends)
 
-entries_kept : (old new : List ℕ) (places : List EntryPlace) → take (length old) new ≡ old → AllByRecursion (Lies (length old)) places → map (entry_in new) places ≡ map (entry_in old) places
+entries_kept : (old new : List ℕ) (slots : List EntrySlot) → take (length old) new ≡ old → AllByRecursion (Lies (length old)) slots → map (entry_in new) slots ≡ map (entry_in old) slots
 entries_kept old new [] e h = refl
-entries_kept old new (place ∷ places) e h =
-    ap (λ (x : Entry). x ∷ map (entry_in new) places) (entry_kept old new place e h.0)
-    ∙ ap (λ (l : List Entry). entry_in old place ∷ l) (entries_kept old new places e h.1)
+entries_kept old new (slot ∷ slots) e h =
+    ap (λ (x : Entry). x ∷ map (entry_in new) slots) (entry_kept old new slot e h.0)
+    ∙ ap (λ (l : List Entry). entry_in old slot ∷ l) (entries_kept old new slots e h.1)
 
 value_ends_more : (less more start : ℕ) (end : Option ℕ) → less ≤ more → EndsValue less start end → EndsValue more start end
 value_ends_more less more start None le h = omega (arith, le, h)
 value_ends_more less more start (Some end) le h = (h.0, omega (arith, le, h.1))
 
-lies_more : (less more : ℕ) (places : List EntryPlace) → less ≤ more → AllByRecursion (Lies less) places → AllByRecursion (Lies more) places
+lies_more : (less more : ℕ) (slots : List EntrySlot) → less ≤ more → AllByRecursion (Lies less) slots → AllByRecursion (Lies more) slots
 lies_more less more [] le h = tt
-lies_more less more (place ∷ places) le h =
-    (record { key_ends = h.0.key_ends; value_ends = value_ends_more less more place.key_end place.value_end le h.0.value_ends }, lies_more less more places le h.1)
+lies_more less more (slot ∷ slots) le h =
+    (record { key_ends = h.0.key_ends; value_ends = value_ends_more less more slot.key_end slot.value_end le h.0.value_ends }, lies_more less more slots le h.1)
 
 -- ---- an entry more
 
@@ -77,28 +77,28 @@ entry_is old key middle new start key_end number end mark s i k e m =
     ∙ ap (λ (n : ℕ). let x : Entry = record { key = key; number = number; mark = mark_in new n end } in x) k
     ∙ ap (λ (x : Mark). let y : Entry = record { key = key; number = number; mark = x } in y) m
 
-pub entries_more : (old new : List ℕ) (places : List EntryPlace) (place : EntryPlace) (entry : Entry) → take (length old) new ≡ old → AllByRecursion (Lies (length old)) places → entry_in new place ≡ entry
-    → map (entry_in new) (places ++ place ∷ []) ≡ map (entry_in old) places ++ entry ∷ []
-entries_more old new places place entry e h is =
-    map-append (entry_in new) places (place ∷ [])
-    ∙ ap (λ (l : List Entry). l ++ entry_in new place ∷ []) (entries_kept old new places e h)
-    ∙ ap (λ (x : Entry). map (entry_in old) places ++ x ∷ []) is
+pub entries_more : (old new : List ℕ) (slots : List EntrySlot) (slot : EntrySlot) (entry : Entry) → take (length old) new ≡ old → AllByRecursion (Lies (length old)) slots → entry_in new slot ≡ entry
+    → map (entry_in new) (slots ++ slot ∷ []) ≡ map (entry_in old) slots ++ entry ∷ []
+entries_more old new slots slot entry e h is =
+    map-append (entry_in new) slots (slot ∷ [])
+    ∙ ap (λ (l : List Entry). l ++ entry_in new slot ∷ []) (entries_kept old new slots e h)
+    ∙ ap (λ (x : Entry). map (entry_in old) slots ++ x ∷ []) is
 
-pub lie_more : (old new : List ℕ) (places : List EntryPlace) → take (length old) new ≡ old → AllByRecursion (Lies (length old)) places → AllByRecursion (Lies (length new)) places
-lie_more old new places e h = lies_more (length old) (length new) places (longer old new e) h
+pub lie_more : (old new : List ℕ) (slots : List EntrySlot) → take (length old) new ≡ old → AllByRecursion (Lies (length old)) slots → AllByRecursion (Lies (length new)) slots
+lie_more old new slots e h = lies_more (length old) (length new) slots (longer old new e) h
 
-pub lie_with : (size : ℕ) (places : List EntryPlace) (place : EntryPlace) → AllByRecursion (Lies size) places → Lies size place → AllByRecursion (Lies size) (places ++ place ∷ [])
-lie_with size [] place h l = (l, tt)
-lie_with size (one ∷ places) place h l = (h.0, lie_with size places place h.1 l)
+pub lie_with : (size : ℕ) (slots : List EntrySlot) (slot : EntrySlot) → AllByRecursion (Lies size) slots → Lies size slot → AllByRecursion (Lies size) (slots ++ slot ∷ [])
+lie_with size [] slot h l = (l, tt)
+lie_with size (one ∷ slots) slot h l = (h.0, lie_with size slots slot h.1 l)
 
 -- ---- under a number
 
-pub numbered_are : (bytes : List ℕ) (number : ℕ) (places : List EntryPlace) → eqb number 0 ≡ false → map (entry_in bytes) (map (numbered number) places) ≡ acting number (map (entry_in bytes) places)
+pub numbered_are : (bytes : List ℕ) (number : ℕ) (slots : List EntrySlot) → eqb number 0 ≡ false → map (entry_in bytes) (map (slot_numbered number) slots) ≡ acting number (map (entry_in bytes) slots)
 numbered_are bytes number [] f = refl
-numbered_are bytes number (place ∷ places) f =
-    ap (λ (x : Entry). x ∷ map (entry_in bytes) (map (numbered number) places)) (sym (act_other number (entry_in bytes place) f))
-    ∙ ap (λ (l : List Entry). act_under number (entry_in bytes place) ∷ l) (numbered_are bytes number places f)
+numbered_are bytes number (slot ∷ slots) f =
+    ap (λ (x : Entry). x ∷ map (entry_in bytes) (map (slot_numbered number) slots)) (sym (act_other number (entry_in bytes slot) f))
+    ∙ ap (λ (l : List Entry). act_under number (entry_in bytes slot) ∷ l) (numbered_are bytes number slots f)
 
-pub numbered_lie : (size number : ℕ) (places : List EntryPlace) → AllByRecursion (Lies size) places → AllByRecursion (Lies size) (map (numbered number) places)
+pub numbered_lie : (size number : ℕ) (slots : List EntrySlot) → AllByRecursion (Lies size) slots → AllByRecursion (Lies size) (map (slot_numbered number) slots)
 numbered_lie size number [] h = tt
-numbered_lie size number (place ∷ places) h = (record { key_ends = h.0.key_ends; value_ends = h.0.value_ends }, numbered_lie size number places h.1)
+numbered_lie size number (slot ∷ slots) h = (record { key_ends = h.0.key_ends; value_ends = h.0.value_ends }, numbered_lie size number slots h.1)

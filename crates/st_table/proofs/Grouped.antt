@@ -17,7 +17,7 @@ use Rattle.st_base.specs.declared.entry.Mark.{Mark}
 use Rattle.st_base.specs.declared.entry.Mark.TheVariants.{Put, Gone}
 use Rattle.st_code.specs.Fixed.{fixed64}
 use Rattle.st_block.specs.InternalKey.{internal_cmp, packed, user_key}
-use Rattle.st_block.specs.Written.{FitsBlock, entries_bytes, last_key}
+use Rattle.st_block.specs.Written.{FitsBlock, entries_bytes, last_pair_key}
 use Rattle.st_block.specs.declared.kind.BlockKind.TheVariants.{Data}
 use Rattle.st_table.specs.Entries.{entry_under, is_kind, kind_of, last_entry, mark_under, may_have, number_of}
 use Rattle.st_table.specs.Written.{Cut, MayPut, Pair, blocks_of, closed_with, cut_more, cut_of, internal_key, kind_under, pair_of, value_under}
@@ -147,7 +147,7 @@ abbrev pub last_pair : Pair → List Pair → Pair
 last_pair pair [] = pair
 last_pair pair (other ∷ pairs) = last_pair other pairs
 
-pub last_key_is : (key : List ℕ) (pair : Pair) (pairs : List Pair) → last_key key (pair ∷ pairs) ≡ (last_pair pair pairs).0
+pub last_key_is : (key : List ℕ) (pair : Pair) (pairs : List Pair) → last_pair_key key (pair ∷ pairs) ≡ (last_pair pair pairs).0
 last_key_is key pair [] = refl
 last_key_is key pair (other ∷ pairs) = last_key_is pair.0 other pairs
 

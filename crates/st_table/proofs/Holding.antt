@@ -7,8 +7,8 @@ use Rattle.std.proofs.lemmas.List.Sums.{fold-append}
 use Rattle.std.proofs.lemmas.Grind.{flat_map-append}
 use Rattle.st_base.specs.declared.entry.Entry.{Entry}
 use Rattle.st_block.proofs.Writers.{holds_more}
-use Rattle.st_block.specs.Written.{Writing, added as added_to_block, entries_bytes, finished as finished_block, last_key, with_tail, or_zero, written_block, Holds as BlockHolds}
-use Rattle.st_table.specs.Written.{Cut, Holds, HoldsCut, Pair, Writer, added, closed_with, cut_more, cut_of, data_block, data_bytes, finished, finished_with, handle_bytes, index_pairs, indexed_block, no_entries, pair_of, stored, table_bytes, with_closed, with_open, written_blocks, written_table}
+use Rattle.st_block.specs.Written.{Writing, pair_added as added_to_block, entries_bytes, finished_block as finished_block, last_pair_key, with_tail, or_zero, written_block, HoldsPairs as BlockHolds}
+use Rattle.st_table.specs.Written.{Cut, HoldsEntries, HoldsCut, Pair, Writer, entry_added, closed_with, cut_more, cut_of, data_block, data_bytes, finished_table, finished_with, handle_bytes, index_pairs, indexed_block, no_entries, pair_of, stored, table_bytes, with_closed, with_open, written_blocks, written_table}
 
 -- ---- one block more
 
@@ -17,14 +17,14 @@ data_more closed group =
     flat_map-append (λ (pairs : List Pair). stored (data_block pairs)) closed (group ∷ []) ∙ ap (λ (l : List ℕ). data_bytes closed ++ l) (append-nil (stored (data_block group)))
 
 index_more : (at : ℕ) (closed : List (List Pair)) (group : List Pair)
-    → index_pairs at (closed ++ group ∷ []) ≡ index_pairs at closed ++ (last_key [] group, handle_bytes (record { offset = at + length (data_bytes closed); size = length (data_block group) })) ∷ []
-index_more at [] group = ap (λ (n : ℕ). let p : List Pair = (last_key [] group, handle_bytes (record { offset = n; size = length (data_block group) })) ∷ [] in p) (let k : at ≡ at + 0 = omega arith in k)
+    → index_pairs at (closed ++ group ∷ []) ≡ index_pairs at closed ++ (last_pair_key [] group, handle_bytes (record { offset = at + length (data_bytes closed); size = length (data_block group) })) ∷ []
+index_more at [] group = ap (λ (n : ℕ). let p : List Pair = (last_pair_key [] group, handle_bytes (record { offset = n; size = length (data_block group) })) ∷ [] in p) (let k : at ≡ at + 0 = omega arith in k)
 index_more at (one ∷ closed) group =
     let size = length (stored (data_block one)) in
-    let head : Pair = (last_key [] one, handle_bytes (record { offset = at; size = length (data_block one) })) in
+    let head : Pair = (last_pair_key [] one, handle_bytes (record { offset = at; size = length (data_block one) })) in
     ap (λ (l : List Pair). head ∷ l)
     (index_more (at + size) closed group
-    ∙ ap (λ (n : ℕ). index_pairs (at + size) closed ++ (last_key [] group, handle_bytes (record { offset = n; size = length (data_block group) })) ∷ [])
+    ∙ ap (λ (n : ℕ). index_pairs (at + size) closed ++ (last_pair_key [] group, handle_bytes (record { offset = n; size = length (data_block group) })) ∷ [])
     (let k : at + size + length (data_bytes closed) ≡ at + length (data_bytes (one ∷ closed)) = omega (arith, length-append (stored (data_block one)) (data_bytes closed)) in k))
 
 -- a block whose entries are these is written so
@@ -52,7 +52,7 @@ closes blocks block index closed group b h i x =
       indexed_is =
           subst (λ (pairs : List Pair). BlockHolds (indexed_block index (length blocks) block) pairs)
           (ap (λ (l : List ℕ). index_pairs 0 closed ++ (l, handle_bytes (record { offset = length blocks; size = length (finished_block block) })) ∷ []) key
-          ∙ ap (λ (l : List ℕ). index_pairs 0 closed ++ (last_key [] group, l) ∷ []) value
+          ∙ ap (λ (l : List ℕ). index_pairs 0 closed ++ (last_pair_key [] group, l) ∷ []) value
           ∙ sym (index_more 0 closed group))
           (holds_more index (index_pairs 0 closed) block.last (handle_bytes (record { offset = length blocks; size = length (finished_block block) })) x);
     }
@@ -62,7 +62,7 @@ closes blocks block index closed group b h i x =
 none_held : (interval : ℕ) → BlockHolds (no_entries interval) []
 none_held interval = record { count = refl; entries = refl; restarts = refl; last = refl }
 
-cut_step : (w : Writer) (n : ℕ) (cut : Cut) (e : Entry) → HoldsCut w n cut → HoldsCut (added w e) (n + 1) (cut_more cut (pair_of e))
+cut_step : (w : Writer) (n : ℕ) (cut : Cut) (e : Entry) → HoldsCut w n cut → HoldsCut (entry_added w e) (n + 1) (cut_more cut (pair_of e))
 cut_step w n cut e h =
     let pair = pair_of e in
     let block = added_to_block w.block pair.0 pair.1 in
@@ -90,18 +90,18 @@ cut_step w n cut e h =
     λ t. elim t as (λ v. HoldsCut (cond v (with_closed w block) (with_open w block)) (n + 1) (cond v (record { closed = cut.closed ++ group ∷ []; open_block = [] }) (record { closed = cut.closed; open_block = group }))) [ true ↦ shut | false ↦ left ] in
     subst (λ (t : Bool). HoldsCut (cond t (with_closed w block) (with_open w block)) (n + 1) (cut_more cut pair)) (sym same) (by (leb 4096 (length (entries_bytes 16 0 [] group))))
 
-pub table_holds_more : (writer : Writer) (entries : List Entry) (entry : Entry) → Holds writer entries → Holds (added writer entry) (entries ++ entry ∷ [])
+pub table_holds_more : (writer : Writer) (entries : List Entry) (entry : Entry) → HoldsEntries writer entries → HoldsEntries (entry_added writer entry) (entries ++ entry ∷ [])
 table_holds_more writer entries entry h =
     let start : Cut = record { closed = []; open_block = [] } in
     let cut : cut_more (cut_of (map pair_of entries)) (pair_of entry) ≡ cut_of (map pair_of (entries ++ entry ∷ [])) =
     sym (ap cut_of (map-append pair_of entries (entry ∷ [])) ∙ fold-append cut_more start (map pair_of entries) (pair_of entry ∷ [])) in
     let count : length entries + 1 ≡ length (entries ++ entry ∷ []) = omega (arith, length-append entries (entry ∷ [])) in
-    subst (λ (n : ℕ). HoldsCut (added writer entry) n (cut_of (map pair_of (entries ++ entry ∷ [])))) count
-    (subst (λ (c : Cut). HoldsCut (added writer entry) (length entries + 1) c) cut (cut_step writer (length entries) (cut_of (map pair_of entries)) entry h))
+    subst (λ (n : ℕ). HoldsCut (entry_added writer entry) n (cut_of (map pair_of (entries ++ entry ∷ [])))) count
+    (subst (λ (c : Cut). HoldsCut (entry_added writer entry) (length entries + 1) c) cut (cut_step writer (length entries) (cut_of (map pair_of entries)) entry h))
 
 -- ---- the finished table
 
-written_open : (w : Writer) (n : ℕ) (closed : List (List Pair)) (group : List Pair) → HoldsCut w n (record { closed = closed; open_block = group }) → finished w ≡ written_blocks w.kind n (closed_with closed group)
+written_open : (w : Writer) (n : ℕ) (closed : List (List Pair)) (group : List Pair) → HoldsCut w n (record { closed = closed; open_block = group }) → finished_table w ≡ written_blocks w.kind n (closed_with closed group)
 written_open w n closed [] h =
     ap (λ (t : Bool). cond t (table_bytes w.kind w.count w.blocks (finished_block w.index)) (finished_with w.kind w.count w.blocks w.block w.index)) (eq-eqb w.block.count 0 (sym h.block.count))
     ∙ ap (λ (k : ℕ). table_bytes w.kind k w.blocks (finished_block w.index)) h.count
@@ -116,7 +116,7 @@ written_open w n closed (pair ∷ pairs) h =
     ∙ ap (λ (l : List ℕ). table_bytes w.kind n l (finished_block index)) c.stored_is
     ∙ ap (λ (l : List ℕ). table_bytes w.kind n (data_bytes (closed ++ group ∷ [])) l) (finished_is index 1 (index_pairs 0 (closed ++ group ∷ [])) c.indexed_is h.index_interval)
 
-pub table_written : (writer : Writer) (entries : List Entry) → Holds writer entries → finished writer ≡ written_table writer.kind entries
+pub table_written : (writer : Writer) (entries : List Entry) → HoldsEntries writer entries → finished_table writer ≡ written_table writer.kind entries
 table_written writer entries h =
     let cut = cut_of (map pair_of entries) in
     written_open writer (length entries) cut.closed cut.open_block h

@@ -8,15 +8,15 @@ use Rattle.st_base.specs.Bytes.{same}
 use Rattle.st_base.specs.declared.faults.BlockFault.{BlockFault}
 use Rattle.st_base.specs.declared.faults.TableFault.{TableFault}
 use Rattle.st_base.specs.declared.faults.TableFault.TheVariants.{Checksum, Comparator, Compressed, ExternalVersion, IndexKind, Magic, RangeDel, Short, Sum, TooLarge, Version, Handle as HandleFault}
-use Rattle.st_block.specs.Block.{Cell, block_of, end_of, restarts_of}
-use Rattle.st_block.specs.Place.{Contents}
+use Rattle.st_block.specs.Block.{Cell, block_of, entries_end, restarts_of}
+use Rattle.st_block.specs.BlockContents.{BlockContents}
 use Rattle.st_block.specs.declared.kind.BlockKind.{BlockKind}
 use Rattle.st_table.specs.Footer.{checksum_of, exactly, footer_handle, footer_of, greatest_size, handle_at, handles_of, lies, lying, magic, magic_of, value_handle, version_of}
 use Rattle.st_table.specs.IsTable.{AreProperties, IsFooter, IsMetaindex, IsStored, IsVersioned}
 use Rattle.st_table.specs.Metaindex.{named_in, properties_at, properties_handle, properties_name, range_del_name}
-use Rattle.st_table.specs.Properties.{bytewise, compared, comparator_fault, comparator_name, fixed32_value, index_type_fault, index_type_name, indexed, or_else, properties_fault, property, typed, version_fault, version_name, versioned}
+use Rattle.st_table.specs.Properties.{bytewise, compared, comparator_fault, comparator_name, fixed32_value, index_type_fault, index_type_name, indexed, or_fault, properties_fault, property, typed, version_fault, version_name, versioned}
 use Rattle.st_table.specs.Steps.{◌>>=◌, unless}
-use Rattle.st_table.specs.Stored.{block_at, compression, contents_at, found_sum, opened, stored_sum}
+use Rattle.st_table.specs.Stored.{block_at, compression, contents_at, found_sum, opened_block, stored_sum}
 use Rattle.st_table.specs.declared.footer.Footer.{Footer}
 use Rattle.st_table.specs.declared.handle.Handle.{Handle}
 use Rattle.st_table.specs.declared.kind.TableKind.{TableKind}
@@ -131,13 +131,13 @@ ok_footer kind bytes footer size is ml il =
 
 -- ---- a stored block
 
-opened_ok : (kind : BlockKind) (at : ℕ) (text : List ℕ) (r : Result (List Cell) BlockFault) (block : Contents) → opened kind at text r ≡ Ok block → (r ≡ Ok block.cells) × (block.end ≡ end_of text) × (block.kind ≡ kind) × (block.restarts ≡ restarts_of text)
+opened_ok : (kind : BlockKind) (at : ℕ) (text : List ℕ) (r : Result (List Cell) BlockFault) (block : BlockContents) → opened_block kind at text r ≡ Ok block → (r ≡ Ok block.cells) × (block.end ≡ entries_end text) × (block.kind ≡ kind) × (block.restarts ≡ restarts_of text)
 opened_ok kind at text (Err fault) block e = absurd cc
 opened_ok kind at text (Ok cells) block e =
-    let same : (let c : Contents = record { kind = kind; end = end_of text; cells = cells; restarts = restarts_of text } in c) ≡ block = is_ok_same _ block e in
-    (ap (λ (c : Contents). Ok c.cells) same, sym (ap (λ (c : Contents). c.end) same), sym (ap (λ (c : Contents). c.kind) same), sym (ap (λ (c : Contents). c.restarts) same))
+    let same : (let c : BlockContents = record { kind = kind; end = entries_end text; cells = cells; restarts = restarts_of text } in c) ≡ block = is_ok_same _ block e in
+    (ap (λ (c : BlockContents). Ok c.cells) same, sym (ap (λ (c : BlockContents). c.end) same), sym (ap (λ (c : BlockContents). c.kind) same), sym (ap (λ (c : BlockContents). c.restarts) same))
 
-pub block_at_ok : (kind : BlockKind) (bytes : List ℕ) (handle : Handle) (block : Contents) → lies bytes handle ≡ true → block_at kind bytes handle ≡ Ok block → IsStored bytes kind handle block
+pub block_at_ok : (kind : BlockKind) (bytes : List ℕ) (handle : Handle) (block : BlockContents) → lies bytes handle ≡ true → block_at kind bytes handle ≡ Ok block → IsStored bytes kind handle block
 unfolding block_at
 block_at_ok kind bytes handle block l e =
     let a = guard_ok (not (eqb (compression bytes handle) 0)) (Compressed handle.offset) _ block e in
@@ -145,17 +145,17 @@ block_at_ok kind bytes handle block l e =
     let o = opened_ok kind handle.offset (contents_at bytes handle) (block_of kind (contents_at bytes handle)) block b.1 in
     record { inside = leb-true _ _ l; uncompressed = eqb-true _ _ (not_false _ a.0); sum = eqb-true _ _ (not_false _ b.0); cells_are = o.0; end_is = o.1; kind_is = o.2; restarts_are = o.3 }
 
-pub ok_block_at : (kind : BlockKind) (bytes : List ℕ) (handle : Handle) (block : Contents) → IsStored bytes kind handle block → block_at kind bytes handle ≡ Ok block
+pub ok_block_at : (kind : BlockKind) (bytes : List ℕ) (handle : Handle) (block : BlockContents) → IsStored bytes kind handle block → block_at kind bytes handle ≡ Ok block
 unfolding block_at
 ok_block_at kind bytes handle block is =
     skip (not (eqb (compression bytes handle) 0)) (Compressed handle.offset) _ block (true_not _ (eq-eqb _ _ is.uncompressed))
     (skip (not (eqb (stored_sum bytes handle) (found_sum bytes handle))) (Sum handle.offset (stored_sum bytes handle) (found_sum bytes handle)) _ block (true_not _ (eq-eqb _ _ is.sum))
-    (ap (opened kind handle.offset (contents_at bytes handle)) is.cells_are
-    ∙ ap (λ (n : ℕ). let r : Result Contents TableFault = Ok (record { kind = kind; end = n; cells = block.cells; restarts = restarts_of (contents_at bytes handle) }) in r) (sym is.end_is)
-    ∙ ap (λ (l : List ℕ). let r : Result Contents TableFault = Ok (record { kind = kind; end = block.end; cells = block.cells; restarts = l }) in r) (sym is.restarts_are)
-    ∙ ap (λ (k : BlockKind). let r : Result Contents TableFault = Ok (record { kind = k; end = block.end; cells = block.cells; restarts = block.restarts }) in r) (sym is.kind_is)))
+    (ap (opened_block kind handle.offset (contents_at bytes handle)) is.cells_are
+    ∙ ap (λ (n : ℕ). let r : Result BlockContents TableFault = Ok (record { kind = kind; end = n; cells = block.cells; restarts = restarts_of (contents_at bytes handle) }) in r) (sym is.end_is)
+    ∙ ap (λ (l : List ℕ). let r : Result BlockContents TableFault = Ok (record { kind = kind; end = block.end; cells = block.cells; restarts = l }) in r) (sym is.restarts_are)
+    ∙ ap (λ (k : BlockKind). let r : Result BlockContents TableFault = Ok (record { kind = k; end = block.end; cells = block.cells; restarts = block.restarts }) in r) (sym is.kind_is)))
 
-pub stored_lies : (bytes : List ℕ) (kind : BlockKind) (handle : Handle) (block : Contents) → IsStored bytes kind handle block → lies bytes handle ≡ true
+pub stored_lies : (bytes : List ℕ) (kind : BlockKind) (handle : Handle) (block : BlockContents) → IsStored bytes kind handle block → lies bytes handle ≡ true
 stored_lies bytes kind handle block is = le-leb _ _ is.inside
 
 -- ---- names
@@ -168,7 +168,7 @@ properties_at_ok : (bytes : List ℕ) (at : ℕ) (o : Option (ℕ × List ℕ)) 
 properties_at_ok bytes at None handle e = absurd cc
 properties_at_ok bytes at (Some found) handle e = (found, refl, e)
 
-pub names_ok : (bytes : List ℕ) (at : ℕ) (metaindex : Contents) (handle : Handle) → properties_handle bytes at metaindex ≡ Ok handle → IsMetaindex metaindex handle × (lies bytes handle ≡ true)
+pub names_ok : (bytes : List ℕ) (at : ℕ) (metaindex : BlockContents) (handle : Handle) → properties_handle bytes at metaindex ≡ Ok handle → IsMetaindex metaindex handle × (lies bytes handle ≡ true)
 unfolding properties_handle
 names_ok bytes at metaindex handle e =
     let a = guard_ok (is_some (named_in range_del_name metaindex)) RangeDel _ handle e in
@@ -176,7 +176,7 @@ names_ok bytes at metaindex handle e =
     let h = value_handle_ok bytes (at + p.0.0) p.0.1 handle p.2 in
     (record { no_range_deletions = none_of (named_in range_del_name metaindex) a.0; at = p.0.0; value = p.0.1; found = p.1; handle_is = h.0 }, h.1)
 
-pub ok_names : (bytes : List ℕ) (at : ℕ) (metaindex : Contents) (handle : Handle) → IsMetaindex metaindex handle → lies bytes handle ≡ true → properties_handle bytes at metaindex ≡ Ok handle
+pub ok_names : (bytes : List ℕ) (at : ℕ) (metaindex : BlockContents) (handle : Handle) → IsMetaindex metaindex handle → lies bytes handle ≡ true → properties_handle bytes at metaindex ≡ Ok handle
 unfolding properties_handle
 ok_names bytes at metaindex handle is l =
     skip (is_some (named_in range_del_name metaindex)) RangeDel _ handle (ap (λ (o : Option (ℕ × List ℕ)). is_some o) is.no_range_deletions)
@@ -184,7 +184,7 @@ ok_names bytes at metaindex handle is l =
 
 -- ---- properties
 
-or_else_none : (o p : Option TableFault) → or_else o p ≡ None → (o ≡ None) × (p ≡ None)
+or_else_none : (o p : Option TableFault) → or_fault o p ≡ None → (o ≡ None) × (p ≡ None)
 or_else_none None p e = (refl, e)
 or_else_none (Some fault) p e = absurd cc
 
@@ -216,7 +216,7 @@ typed_none : (o : Option (List ℕ)) → typed o ≡ None → IfSome o (λ value
 typed_none None e = tt
 typed_none (Some value) e = indexed_none (fixed32_value value) e
 
-pub properties_ok : (kind : TableKind) (properties : Contents) → properties_fault kind properties ≡ None → AreProperties kind properties
+pub properties_ok : (kind : TableKind) (properties : BlockContents) → properties_fault kind properties ≡ None → AreProperties kind properties
 unfolding properties_fault
 properties_ok kind properties e =
     let a = or_else_none (version_fault kind properties) _ e in
@@ -235,11 +235,11 @@ none_typed : (o : Option (List ℕ)) → IfSome o (λ value. fixed32_value value
 none_typed None h = refl
 none_typed (Some value) h = ap indexed h
 
-pub ok_properties : (kind : TableKind) (properties : Contents) → AreProperties kind properties → properties_fault kind properties ≡ None
+pub ok_properties : (kind : TableKind) (properties : BlockContents) → AreProperties kind properties → properties_fault kind properties ≡ None
 unfolding properties_fault
 ok_properties kind properties are =
-    ap (λ (o : Option TableFault). or_else o (or_else (comparator_fault properties) (index_type_fault properties))) (none_versioned kind are.version)
-    ∙ ap (λ (o : Option TableFault). or_else o (index_type_fault properties)) (none_compared (property comparator_name properties) are.comparator)
+    ap (λ (o : Option TableFault). or_fault o (or_fault (comparator_fault properties) (index_type_fault properties))) (none_versioned kind are.version)
+    ∙ ap (λ (o : Option TableFault). or_fault o (index_type_fault properties)) (none_compared (property comparator_name properties) are.comparator)
     ∙ none_typed (property index_type_name properties) are.index_type
   where
     none_versioned : (k : TableKind) → IsVersioned k properties → version_fault k properties ≡ None

@@ -10,9 +10,9 @@ use Rattle.st_code.proofs.Forms.{form_spelled, shortest_form}
 use Rattle.st_code.proofs.Reading.{below_in}
 use Rattle.st_code.specs.Crc.{crc32c, mask}
 use Rattle.st_code.specs.Fixed.{fixed32, fixed64}
-use Rattle.st_code.specs.Varint.{below, placed, spelled, varint, varint64_at}
-use Rattle.st_block.specs.Block.{Cell, block_of, end_of, restarts_of}
-use Rattle.st_block.specs.Place.{Contents}
+use Rattle.st_code.specs.Varint.{if_below, placed, spelled, varint, varint64_at}
+use Rattle.st_block.specs.Block.{Cell, block_of, entries_end, restarts_of}
+use Rattle.st_block.specs.BlockContents.{BlockContents}
 use Rattle.st_block.specs.declared.kind.BlockKind.{BlockKind}
 use Rattle.st_table.specs.Footer.{handle_at, magic}
 use Rattle.st_table.specs.IsTable.{IsFooter, IsStored}
@@ -42,8 +42,8 @@ Number = Result (ℕ × ℕ) CodeFault
 varint_here : (bytes rest : List ℕ) (at n : ℕ) → n < 2 ^ 64 → drop at bytes ≡ varint n ++ rest → varint64_at bytes at ≡ Ok (n, at + length (varint n))
 varint_here bytes rest at n lt e =
     let s = shortest_form 9 n (omega arith) in
-    ap (λ (l : List ℕ). placed at (below (2 ^ 64) (spelled 10 l))) e
-    ∙ ap (λ (r : Number). placed at (below (2 ^ 64) r)) (form_spelled (varint n) rest n 10 s.form_of s.within)
+    ap (λ (l : List ℕ). placed at (if_below (2 ^ 64) (spelled 10 l))) e
+    ∙ ap (λ (r : Number). placed at (if_below (2 ^ 64) r)) (form_spelled (varint n) rest n 10 s.form_of s.within)
     ∙ ap (λ (r : Number). placed at r) (below_in (2 ^ 64) (n, length (varint n)) lt)
 
 pub handle_here : (bytes rest : List ℕ) (at : ℕ) (h : Handle) → h.offset < 2 ^ 64 → h.size < 2 ^ 64 → drop at bytes ≡ handle_bytes h ++ rest → handle_at bytes at ≡ Some (h, at + length (handle_bytes h))
@@ -98,8 +98,8 @@ footer_here bytes at footer e room mo ms io is =
 -- ---- stored blocks
 
 -- the block of these bytes
-abbrev pub contents_of : BlockKind → List ℕ → List Cell → Contents
-contents_of kind text cells = record { kind = kind; end = end_of text; cells = cells; restarts = restarts_of text }
+abbrev pub contents_of : BlockKind → List ℕ → List Cell → BlockContents
+contents_of kind text cells = record { kind = kind; end = entries_end text; cells = cells; restarts = restarts_of text }
 
 abbrev pub at_place : ℕ → List ℕ → Handle
 at_place at text = record { offset = at; size = length text }
@@ -122,7 +122,7 @@ stored_here bytes rest at kind text cells e room opens =
       uncompressed = byte_at bytes (at + length text) 0 (fixed32 sum ++ rest) at-byte;
       sum = ap (λ (l : List ℕ). from_le_bytes w32 l) at-sum ∙ from_le_bytes-to_le_bytes_4 sum (omega arith) ∙ sym found;
       cells_are = ap (block_of kind) contents ∙ opens;
-      end_is = ap end_of (sym contents);
+      end_is = ap entries_end (sym contents);
       kind_is = refl;
       restarts_are = ap restarts_of (sym contents);
     }

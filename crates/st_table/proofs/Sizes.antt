@@ -8,10 +8,10 @@ use Rattle.st_code.specs.Crc.{crc32c, mask}
 use Rattle.st_code.specs.Fixed.{fixed32, fixed64}
 use Rattle.st_code.specs.Varint.{shortest, varint}
 use Rattle.st_block.proofs.Writers.{entry_length, tail_length}
-use Rattle.st_block.specs.Written.{Writing, added as added_to_block, entries_bytes, entry_bytes, finished as finished_block, restarts_of, shared_of, written_block}
+use Rattle.st_block.specs.Written.{Writing, pair_added as added_to_block, entries_bytes, entry_bytes, finished_block as finished_block, restarts_of, shared_of, written_block}
 use Rattle.st_table.specs.Footer.{greatest_size, magic}
 use Rattle.st_table.specs.Metaindex.{properties_name}
-use Rattle.st_table.specs.Written.{Pair, Writer, added, ending, finished, finished_with, footer_bytes, handle_bytes, indexed_block, internal_key, metaindex_block, padded, properties_block, property_pairs, stored, table_bytes, value_under, with_closed, with_open}
+use Rattle.st_table.specs.Written.{Pair, Writer, entry_added, ending, finished_table, finished_with, footer_bytes, handle_bytes, indexed_block, internal_key, metaindex_block, padded, properties_block, property_pairs, stored, table_bytes, value_under, with_closed, with_open}
 use Rattle.st_table.specs.declared.handle.Handle.{Handle}
 use Rattle.st_table.specs.declared.kind.TableKind.{TableKind}
 use Rattle.st_table.specs.declared.kind.TableKind.TheVariants.{External, Own}
@@ -110,13 +110,13 @@ table_length kind count blocks index =
 
 -- whether the block of an entry that is added stays open or is closed, the table is the same
 pub finished_either : (writer : Writer) (block : Writing) (t : Bool) → 0 < block.count
-    → finished (cond t (with_closed writer block) (with_open writer block)) ≡ finished_with writer.kind (writer.count + 1) writer.blocks block writer.index
+    → finished_table (cond t (with_closed writer block) (with_open writer block)) ≡ finished_with writer.kind (writer.count + 1) writer.blocks block writer.index
 finished_either writer block true some = refl
 finished_either writer block false some =
     ap (λ (b : Bool). cond b (table_bytes writer.kind (writer.count + 1) writer.blocks (finished_block writer.index)) (finished_with writer.kind (writer.count + 1) writer.blocks block writer.index)) (ne_eqb block.count 0 (λ z. omega arith))
 
 pub finished_added : (writer : Writer) (e : Entry)
-    → finished (added writer e) ≡ finished_with writer.kind (writer.count + 1) writer.blocks (added_to_block writer.block (internal_key e) (value_under e.mark)) writer.index
+    → finished_table (entry_added writer e) ≡ finished_with writer.kind (writer.count + 1) writer.blocks (added_to_block writer.block (internal_key e) (value_under e.mark)) writer.index
 finished_added writer e =
     let block = added_to_block writer.block (internal_key e) (value_under e.mark) in
     finished_either writer block (leb 4096 (length block.entries)) (omega arith)

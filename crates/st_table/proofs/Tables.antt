@@ -12,17 +12,17 @@ use Rattle.st_base.specs.declared.faults.TableFault.{TableFault}
 use Rattle.st_base.specs.declared.faults.TableFault.TheVariants.{Index as IndexFault, Kind, Number, Order, TooLarge}
 use Rattle.st_block.specs.Block.{Cell}
 use Rattle.st_block.specs.InternalKey.{internal_cmp, user_key}
-use Rattle.st_block.specs.Place.{Contents}
+use Rattle.st_block.specs.BlockContents.{BlockContents}
 use Rattle.st_block.specs.declared.kind.BlockKind.TheVariants.{Data, Index, Plain}
-use Rattle.st_table.specs.DataBlocks.{data_of, first_key, last_key, parted, parts, with_block, with_blocks}
-use Rattle.st_table.specs.Entries.{entry_fault, entry_under, is_behind, is_kind, kind_of, last_entry, may_have, number_of, with_entries, with_entry}
+use Rattle.st_table.specs.DataBlocks.{data_of, first_cell_key, last_cell_key, parted, parts, with_block, with_blocks}
+use Rattle.st_table.specs.Entries.{entry_fault, entry_under, is_behind, is_kind, kind_of, last_entry, may_have, number_of, with_entries, with_cell_entry}
 use Rattle.st_table.specs.Footer.{footer_of, value_handle}
 use Rattle.st_table.specs.IsTable.{AreDataBlocks, IsDataBlock, IsEntry, IsTable, entries_under, joined}
-use Rattle.st_table.specs.Metaindex.{properties_handle, value_place}
+use Rattle.st_table.specs.Metaindex.{properties_handle, value_offset}
 use Rattle.st_table.specs.Properties.{properties_fault}
 use Rattle.st_table.specs.Steps.{◌>>=◌, Fails, unless}
 use Rattle.st_table.specs.Stored.{block_at}
-use Rattle.st_table.specs.Table.{IsFirstFault, fault_of, first_fault, keys_rise, table_of}
+use Rattle.st_table.specs.Table.{IsFirstFault, table_fault_of, first_fault, keys_rise, table_of}
 use Rattle.st_table.specs.declared.fault.OpenTableFault.{OpenTableFault}
 use Rattle.st_table.specs.declared.fault.OpenTableFault.TheVariants.{Bad, OutOfMemory}
 use Rattle.st_table.specs.declared.kind.TableKind.{TableKind}
@@ -70,7 +70,7 @@ with_entries_ok kind [] front entries o e =
     (tt, sym same ∙ sym (append-nil front), subst (λ (l : List Entry). in_order l ≡ true) same o)
 with_entries_ok kind (cell ∷ cells) front entries o e =
     let one = entry_under cell.key cell.value in
-    let b = bind_ok (with_entry kind front cell.key cell.value) (λ (l : List Entry). with_entries kind l cells) entries e in
+    let b = bind_ok (with_cell_entry kind front cell.key cell.value) (λ (l : List Entry). with_entries kind l cells) entries e in
     let u = unless_ok (entry_fault kind (length front) (last_entry front) cell.key cell.value) (Ok (front ++ one ∷ [])) b.0 b.1 in
     let p = passes_of kind (length front) (last_entry front) cell.key cell.value u.0 in
     let more : with_entries kind (front ++ one ∷ []) cells ≡ Ok entries = ap (λ (l : List Entry). with_entries kind l cells) (is_ok_same (front ++ one ∷ []) b.0 u.1) ∙ b.2 in
@@ -83,7 +83,7 @@ ok_with_entries kind (cell ∷ cells) front fit o =
     let one = entry_under cell.key cell.value in
     let none = no_fault_of kind (length front) (last_entry front) cell fit.0 (behind_in front one (entries_under cells) o) in
     let apart : (front ++ one ∷ []) ++ entries_under cells ≡ front ++ one ∷ entries_under cells = append_assoc front (one ∷ []) (entries_under cells) in
-    ok_bind (with_entry kind front cell.key cell.value) (λ (l : List Entry). with_entries kind l cells) (front ++ one ∷ []) (front ++ one ∷ entries_under cells)
+    ok_bind (with_cell_entry kind front cell.key cell.value) (λ (l : List Entry). with_entries kind l cells) (front ++ one ∷ []) (front ++ one ∷ entries_under cells)
     (ap (λ (x : Option TableFault). unless x (Ok (front ++ one ∷ []))) none)
     (ok_with_entries kind cells (front ++ one ∷ []) fit.1 (ap in_order apart ∙ o) ∙ ap (λ (l : List Entry). let r : Result (List Entry) TableFault = Ok l in r) apart)
 
@@ -95,24 +95,24 @@ prior zero before = None
 prior (suc n) before = Some before
 
 parts_split : (block : ℕ) (before : List ℕ) (cells : List Cell) (key : List ℕ) → parts block before cells key ≡ true
-    → (is_le (internal_cmp (last_key [] cells) key) ≡ true) × IfSome (prior block before) (λ k. is_lt (internal_cmp k (first_key cells)) ≡ true)
-parts_split zero before cells key h = ((and_parts (is_le (internal_cmp (last_key [] cells) key)) _ h).0, tt)
+    → (is_le (internal_cmp (last_cell_key [] cells) key) ≡ true) × IfSome (prior block before) (λ k. is_lt (internal_cmp k (first_cell_key cells)) ≡ true)
+parts_split zero before cells key h = ((and_parts (is_le (internal_cmp (last_cell_key [] cells) key)) _ h).0, tt)
 parts_split (suc n) before cells key h =
-    let p = and_parts (is_le (internal_cmp (last_key [] cells) key)) (eqb (suc n) 0 || is_lt (internal_cmp before (first_key cells))) h in
-    (p.0, sym (ap (λ (t : Bool). t || is_lt (internal_cmp before (first_key cells))) (ne_eqb (suc n) 0 (λ z. omega arith))) ∙ p.1)
+    let p = and_parts (is_le (internal_cmp (last_cell_key [] cells) key)) (eqb (suc n) 0 || is_lt (internal_cmp before (first_cell_key cells))) h in
+    (p.0, sym (ap (λ (t : Bool). t || is_lt (internal_cmp before (first_cell_key cells))) (ne_eqb (suc n) 0 (λ z. omega arith))) ∙ p.1)
 
-parts_joined : (block : ℕ) (before : List ℕ) (cells : List Cell) (key : List ℕ) → is_le (internal_cmp (last_key [] cells) key) ≡ true → IfSome (prior block before) (λ k. is_lt (internal_cmp k (first_key cells)) ≡ true)
+parts_joined : (block : ℕ) (before : List ℕ) (cells : List Cell) (key : List ℕ) → is_le (internal_cmp (last_cell_key [] cells) key) ≡ true → IfSome (prior block before) (λ k. is_lt (internal_cmp k (first_cell_key cells)) ≡ true)
     → parts block before cells key ≡ true
-parts_joined zero before cells key l f = and_from (is_le (internal_cmp (last_key [] cells) key)) true l refl
+parts_joined zero before cells key l f = and_from (is_le (internal_cmp (last_cell_key [] cells) key)) true l refl
 parts_joined (suc n) before cells key l f =
-    and_from (is_le (internal_cmp (last_key [] cells) key)) (eqb (suc n) 0 || is_lt (internal_cmp before (first_key cells))) l
-    (ap (λ (t : Bool). t || is_lt (internal_cmp before (first_key cells))) (ne_eqb (suc n) 0 (λ z. omega arith)) ∙ f)
+    and_from (is_le (internal_cmp (last_cell_key [] cells) key)) (eqb (suc n) 0 || is_lt (internal_cmp before (first_cell_key cells))) l
+    (ap (λ (t : Bool). t || is_lt (internal_cmp before (first_cell_key cells))) (ne_eqb (suc n) 0 (λ z. omega arith)) ∙ f)
 
 prior_more : (block : ℕ) (key : List ℕ) → prior (block + 1) key ≡ Some key
 prior_more block key = ap (λ (n : ℕ). prior n key) (let k : block + 1 ≡ suc block = omega arith in k)
 
 with_block_ok : (kind : TableKind) (bytes : List ℕ) (at block : ℕ) (before : List ℕ) (cell : Cell) (front entries : List Entry) → in_order front ≡ true → with_block kind bytes at block before cell.key cell.value front ≡ Ok entries
-    → (b : Contents) × IsDataBlock bytes (prior block before) cell b × AllByRecursion (IsEntry kind) b.cells × (entries ≡ front ++ entries_under b.cells) × (in_order entries ≡ true)
+    → (b : BlockContents) × IsDataBlock bytes (prior block before) cell b × AllByRecursion (IsEntry kind) b.cells × (entries ≡ front ++ entries_under b.cells) × (in_order entries ≡ true)
 unfolding with_block
 with_block_ok kind bytes at block before cell front entries o e =
     let h = bind_ok (value_handle bytes at cell.value) _ entries e in
@@ -124,7 +124,7 @@ with_block_ok kind bytes at block before cell front entries o e =
     let w = with_entries_ok kind b.0.cells front entries o (l.1 ∙ ap (λ (x : List Entry). let r : Result (List Entry) TableFault = Ok x in r) p.1) in
     (b.0, record { handle = h.0; handle_is = v.0; stored = block_at_ok Data bytes h.0 b.0 v.1 b.1; behind_last = s.0; before_first = s.1 }, w.0, w.1, w.2)
 
-ok_with_block : (kind : TableKind) (bytes : List ℕ) (at block : ℕ) (before : List ℕ) (cell : Cell) (front : List Entry) (b : Contents) → IsDataBlock bytes (prior block before) cell b → AllByRecursion (IsEntry kind) b.cells → in_order (front ++ entries_under b.cells) ≡ true
+ok_with_block : (kind : TableKind) (bytes : List ℕ) (at block : ℕ) (before : List ℕ) (cell : Cell) (front : List Entry) (b : BlockContents) → IsDataBlock bytes (prior block before) cell b → AllByRecursion (IsEntry kind) b.cells → in_order (front ++ entries_under b.cells) ≡ true
     → with_block kind bytes at block before cell.key cell.value front ≡ Ok (front ++ entries_under b.cells)
 unfolding with_block
 ok_with_block kind bytes at block before cell front b is fit o =
@@ -146,13 +146,13 @@ abbrev under : Cell → Entry
 under cell = entry_under cell.key cell.value
 
 with_blocks_ok : (kind : TableKind) (bytes : List ℕ) (at end : ℕ) (cells : List Cell) (block : ℕ) (before : List ℕ) (front entries : List Entry) → in_order front ≡ true → with_blocks kind bytes at end block before cells front ≡ Ok entries
-    → (blocks : List Contents) × AreDataBlocks bytes (prior block before) cells blocks × AllByRecursion (IsEntry kind) (joined blocks) × (entries ≡ front ++ entries_under (joined blocks)) × (in_order entries ≡ true)
+    → (blocks : List BlockContents) × AreDataBlocks bytes (prior block before) cells blocks × AllByRecursion (IsEntry kind) (joined blocks) × (entries ≡ front ++ entries_under (joined blocks)) × (in_order entries ≡ true)
 with_blocks_ok kind bytes at end [] block before front entries o e =
     let same = is_ok_same front entries e in
     ([], tt, tt, sym same ∙ sym (append-nil front), subst (λ (l : List Entry). in_order l ≡ true) same o)
 with_blocks_ok kind bytes at end (cell ∷ cells) block before front entries o e =
-    let b = bind_ok (with_block kind bytes (at + value_place end cell cells) block before cell.key cell.value front) (λ (l : List Entry). with_blocks kind bytes at end (block + 1) cell.key cells l) entries e in
-    let w = with_block_ok kind bytes (at + value_place end cell cells) block before cell front b.0 o b.1 in
+    let b = bind_ok (with_block kind bytes (at + value_offset end cell cells) block before cell.key cell.value front) (λ (l : List Entry). with_blocks kind bytes at end (block + 1) cell.key cells l) entries e in
+    let w = with_block_ok kind bytes (at + value_offset end cell cells) block before cell front b.0 o b.1 in
     let r = with_blocks_ok kind bytes at end cells (block + 1) cell.key b.0 entries w.4 b.2 in (
       w.0 ∷ r.0,
       (w.1, subst (λ (p : Option (List ℕ)). AreDataBlocks bytes p cells r.0) (prior_more block cell.key) r.1),
@@ -161,7 +161,7 @@ with_blocks_ok kind bytes at end (cell ∷ cells) block before front entries o e
       r.4,
     )
 
-ok_with_blocks : (kind : TableKind) (bytes : List ℕ) (at end : ℕ) (cells : List Cell) (blocks : List Contents) (block : ℕ) (before : List ℕ) (front : List Entry) → AreDataBlocks bytes (prior block before) cells blocks → AllByRecursion (IsEntry kind) (joined blocks)
+ok_with_blocks : (kind : TableKind) (bytes : List ℕ) (at end : ℕ) (cells : List Cell) (blocks : List BlockContents) (block : ℕ) (before : List ℕ) (front : List Entry) → AreDataBlocks bytes (prior block before) cells blocks → AllByRecursion (IsEntry kind) (joined blocks)
     → in_order (front ++ entries_under (joined blocks)) ≡ true → with_blocks kind bytes at end block before cells front ≡ Ok (front ++ entries_under (joined blocks))
 ok_with_blocks kind bytes at end [] [] block before front are fit o = ap (λ (l : List Entry). let r : Result (List Entry) TableFault = Ok l in r) (sym (append-nil front))
 ok_with_blocks kind bytes at end [] (b ∷ blocks) block before front are fit o = absurd are
@@ -172,8 +172,8 @@ ok_with_blocks kind bytes at end (cell ∷ cells) (b ∷ blocks) block before fr
     let f = all_front (IsEntry kind) b.cells (joined blocks) fit in
     let whole : (front ++ here) ++ rest ≡ front ++ entries_under (joined (b ∷ blocks)) = append_assoc front here rest ∙ ap (λ (l : List Entry). front ++ l) (sym (map-append under b.cells (joined blocks))) in
     let order : in_order ((front ++ here) ++ rest) ≡ true = ap in_order whole ∙ o in
-    ok_bind (with_block kind bytes (at + value_place end cell cells) block before cell.key cell.value front) (λ (l : List Entry). with_blocks kind bytes at end (block + 1) cell.key cells l) (front ++ here) (front ++ entries_under (joined (b ∷ blocks)))
-    (ok_with_block kind bytes (at + value_place end cell cells) block before cell front b are.0 f.0 (order_front (front ++ here) rest order))
+    ok_bind (with_block kind bytes (at + value_offset end cell cells) block before cell.key cell.value front) (λ (l : List Entry). with_blocks kind bytes at end (block + 1) cell.key cells l) (front ++ here) (front ++ entries_under (joined (b ∷ blocks)))
+    (ok_with_block kind bytes (at + value_offset end cell cells) block before cell front b are.0 f.0 (order_front (front ++ here) rest order))
     (ok_with_blocks kind bytes at end cells blocks (block + 1) cell.key (front ++ here) (subst (λ (p : Option (List ℕ)). AreDataBlocks bytes p cells blocks) (sym (prior_more block cell.key)) are.1) f.1 order
     ∙ ap (λ (l : List Entry). let r : Result (List Entry) TableFault = Ok l in r) whole)
 
@@ -224,18 +224,18 @@ is_table bytes kind entries t =
 -- ---- the first fault
 
 pub first_of : (bytes : List ℕ) (kind : TableKind) (fault : OpenTableFault) → Fails fault (table_of kind bytes) → IsFirstFault bytes kind fault
-first_of bytes kind (Bad fault) h = ap fault_of h
+first_of bytes kind (Bad fault) h = ap table_fault_of h
 first_of bytes kind OutOfMemory h = tt
 
 pub no_fault_is : (bytes : List ℕ) (kind : TableKind) → first_fault bytes kind ≡ None → (entries : List Entry) × IsTable bytes kind entries
 no_fault_is bytes kind e = inner (table_of kind bytes) refl e
   where
-    inner : (r : Result (List Entry) TableFault) → table_of kind bytes ≡ r → fault_of r ≡ None → (entries : List Entry) × IsTable bytes kind entries
+    inner : (r : Result (List Entry) TableFault) → table_of kind bytes ≡ r → table_fault_of r ≡ None → (entries : List Entry) × IsTable bytes kind entries
     inner (Ok entries) s e = (entries, table_is bytes kind entries s)
     inner (Err fault) s e = absurd cc
 
 pub is_no_fault : (bytes : List ℕ) (kind : TableKind) (entries : List Entry) → IsTable bytes kind entries → first_fault bytes kind ≡ None
-is_no_fault bytes kind entries t = ap fault_of (is_table bytes kind entries t)
+is_no_fault bytes kind entries t = ap table_fault_of (is_table bytes kind entries t)
 
 pub one_table : (bytes : List ℕ) (kind : TableKind) (one other : List Entry) → IsTable bytes kind one → IsTable bytes kind other → one ≡ other
 one_table bytes kind one other s t = is_ok_same one other (sym (is_table bytes kind one s) ∙ is_table bytes kind other t)

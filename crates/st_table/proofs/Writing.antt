@@ -6,9 +6,9 @@ use Rattle.st_base.specs.declared.entry.Entry.{Entry}
 use Rattle.std.proofs.lemmas.List.{length-append}
 use Rattle.std.proofs.Math.Seq.{take-append_seam}
 use Rattle.st_block.proofs.Writers.{entry_some, finished_long, finished_short, tail_length}
-use Rattle.st_block.specs.Written.{Writing, added as added_to_block, entry_bytes, finished as finished_block, shared_of, Holds as BlockHolds}
+use Rattle.st_block.specs.Written.{Writing, pair_added as added_to_block, entry_bytes, finished_block as finished_block, shared_of, HoldsPairs as BlockHolds}
 use Rattle.st_table.specs.Footer.{greatest_size}
-use Rattle.st_table.specs.Written.{IsWriter, Writer, added, ending, internal_key, value_under, finished, finished_with, handle_bytes, indexed_block, no_entries, stored, table_bytes, with_closed, with_open}
+use Rattle.st_table.specs.Written.{IsWriter, Writer, entry_added, ending, internal_key, value_under, finished_table, finished_with, handle_bytes, indexed_block, no_entries, stored, table_bytes, with_closed, with_open}
 use Rattle.st_table.specs.declared.kind.TableKind.{TableKind}
 use Rattle.st_table.specs.declared.kind.TableKind.TheVariants.{External, Own}
 use Rattle.st_table.proofs.Sizes.{ending_short, finished_added, finished_either, handle_short, parts_short, stored_length, table_length, limit_short}
@@ -125,7 +125,7 @@ closed_is w block out next index o n i =
 
 -- the table with an entry, by its internal key and value
 pub with_entry_is : (w : Writer) (e : Entry) (key value : List ℕ) → key ≡ internal_key e → value ≡ value_under e.mark
-    → length (finished_with w.kind (w.count + 1) w.blocks (added_to_block w.block key value) w.index) ≡ length (finished (added w e))
+    → length (finished_with w.kind (w.count + 1) w.blocks (added_to_block w.block key value) w.index) ≡ length (finished_table (entry_added w e))
 with_entry_is w e key value k v =
     ap (λ (x : List ℕ). length (finished_with w.kind (w.count + 1) w.blocks (added_to_block w.block x value) w.index)) k
     ∙ ap (λ (x : List ℕ). length (finished_with w.kind (w.count + 1) w.blocks (added_to_block w.block (internal_key e) x) w.index)) v
@@ -136,7 +136,7 @@ with_entry_is w e key value k v =
 pub some_entries : (b : Bool) (count : ℕ) → b ≡ false → IsTrue b ↔ (count ≡ 0) → eqb count 0 ≡ false
 some_entries b count f h = ne_eqb count 0 (λ e. false≢true (sym f ∙ h.1 e))
 
-pub finished_some : (w : Writer) → eqb w.block.count 0 ≡ false → finished w ≡ finished_with w.kind w.count w.blocks w.block w.index
+pub finished_some : (w : Writer) → eqb w.block.count 0 ≡ false → finished_table w ≡ finished_with w.kind w.count w.blocks w.block w.index
 finished_some w f = ap (λ (t : Bool). cond t (table_bytes w.kind w.count w.blocks (finished_block w.index)) (finished_with w.kind w.count w.blocks w.block w.index)) f
 
 pub whole_is : (w : Writer) (out index : List ℕ) → out ≡ w.blocks ++ stored (finished_block w.block) → index ≡ finished_block (indexed_block w.index (length w.blocks) w.block)
@@ -157,5 +157,5 @@ parts_of w blocks contents slice last handle index out slice2 b f s o l h i t = 
   index_is = t ∙ i ∙ ap (λ (x : List ℕ). finished_block (added_to_block w.index x handle)) l ∙ ap (λ (x : List ℕ). finished_block (added_to_block w.index w.block.last x)) h;
 }
 
-pub parts_whole : (w : Writer) (out index : List ℕ) → Parts w out index → eqb w.block.count 0 ≡ false → table_bytes w.kind w.count out index ≡ finished w
+pub parts_whole : (w : Writer) (out index : List ℕ) → Parts w out index → eqb w.block.count 0 ≡ false → table_bytes w.kind w.count out index ≡ finished_table w
 parts_whole w out index p f = whole_is w out index p.blocks_are p.index_is ∙ sym (finished_some w f)

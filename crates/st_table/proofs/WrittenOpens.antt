@@ -9,11 +9,11 @@ use Rattle.st_base.specs.Order.{comes_before, in_order, rises_behind}
 use Rattle.st_base.specs.declared.entry.Entry.{Entry}
 use Rattle.st_block.specs.Block.{Cell, block_of, cells_from, tail_of}
 use Rattle.st_block.specs.InternalKey.{internal_cmp}
-use Rattle.st_block.specs.Place.{Contents}
-use Rattle.st_block.specs.Written.{FitsBlock, GoOn, MayWrite, cells_of, last_key, shared_of, entry_bytes, written_block}
+use Rattle.st_block.specs.BlockContents.{BlockContents}
+use Rattle.st_block.specs.Written.{FitsBlock, GoOn, MayWrite, cells_of, last_pair_key, shared_of, entry_bytes, written_block}
 use Rattle.st_block.specs.declared.kind.BlockKind.{BlockKind}
 use Rattle.st_block.specs.declared.kind.BlockKind.TheVariants.{Data, Index, Plain}
-use Rattle.st_table.specs.DataBlocks.{last_key as last_cell_key}
+use Rattle.st_table.specs.DataBlocks.{last_cell_key as last_cell_key}
 use Rattle.st_table.specs.Entries.{entry_under, is_behind, last_entry}
 use Rattle.st_table.specs.Footer.{greatest_size}
 use Rattle.st_table.specs.IsTable.{AreDataBlocks, AreProperties, IsEntry, IsMetaindex, IsTable, entries_under, joined}
@@ -42,7 +42,7 @@ cells_fit kind interval count at key [] h = tt
 cells_fit kind interval count at key (pair ∷ pairs) h =
     (record { kind_fits = h.0.kind_fits; number_fits = h.0.number_fits; size = h.0.block.value }, cells_fit kind interval (count + 1) (at + length (entry_bytes (shared_of interval count key pair.0) pair.0 pair.1)) pair.0 pairs h.1)
 
-last_cell : (interval count at : ℕ) (key : List ℕ) (pairs : List Pair) → last_cell_key key (cells_of interval count at key pairs) ≡ last_key key pairs
+last_cell : (interval count at : ℕ) (key : List ℕ) (pairs : List Pair) → last_cell_key key (cells_of interval count at key pairs) ≡ last_pair_key key pairs
 last_cell interval count at key [] = refl
 last_cell interval count at key (pair ∷ pairs) = last_cell interval (count + 1) (at + length (entry_bytes (shared_of interval count key pair.0) pair.0 pair.1)) pair.0 pairs
 
@@ -113,7 +113,7 @@ index_rest kind ((pair ∷ group) ∷ groups) at p front l o some fit =
     let first : before p pair ≡ true = behind_known front p pair (map entry_of_pair group ++ rest) l order in
     let inner : rises_behind comes_before (entry_of_pair pair) (map entry_of_pair group) ≡ true = rises_part (entry_of_pair pair) (map entry_of_pair group) rest (order_rest front (here ++ rest) order) in
     let less = internal_less p last (last_before p pair group first inner) in
-    let key : last_key [] (pair ∷ group) ≡ last.0 = last_key_is [] pair group in
+    let key : last_pair_key [] (pair ∷ group) ≡ last.0 = last_key_is [] pair group in
     let handle = handle_bytes (record { offset = at; size = length (data_block (pair ∷ group)) }) in
     let size = handle_short (record { offset = at; size = length (data_block (pair ∷ group)) }) in
     let fits = last_fits kind pair group parts.0 in
@@ -131,7 +131,7 @@ may_index kind (pair ∷ group) groups at o some fit =
     let rest = map entry_of_pair (joined_pairs groups) in
     let parts = all_parts (PairFits kind) (pair ∷ group) (joined_pairs groups) fit in
     let last = last_pair pair group in
-    let key : last_key [] (pair ∷ group) ≡ last.0 = last_key_is [] pair group in
+    let key : last_pair_key [] (pair ∷ group) ≡ last.0 = last_key_is [] pair group in
     let handle = handle_bytes (record { offset = at; size = length (data_block (pair ∷ group)) }) in
     let size = handle_short (record { offset = at; size = length (data_block (pair ∷ group)) }) in
     let fits = last_fits kind pair group parts.0 in
@@ -156,7 +156,7 @@ module _ (opens : BlocksOpen) (kind : TableKind) where
 
   -- ---- data blocks
 
-  abbrev block_of_group : List Pair → Contents
+  abbrev block_of_group : List Pair → BlockContents
   block_of_group group = contents_of Data (data_block group) (cells 16 group)
 
   data_written : (bytes rest : List ℕ) (groups : List (List Pair)) (count place : ℕ) (key : List ℕ) (at : ℕ) (front : List Entry) (known : Option (List ℕ)) → Known front known
@@ -172,7 +172,7 @@ module _ (opens : BlocksOpen) (kind : TableKind) where
       let order : in_order (front ++ (here ++ behind)) ≡ true = ap (λ (x : List Entry). in_order (front ++ x)) (sym (entries_joined pair group groups)) ∙ o in
       let parts = all_parts (PairFits kind) (pair ∷ group) (joined_pairs groups) fit in
       let last = last_pair pair group in
-      let index_key : last_key [] (pair ∷ group) ≡ last.0 = last_key_is [] pair group in
+      let index_key : last_pair_key [] (pair ∷ group) ≡ last.0 = last_key_is [] pair group in
       let size = length-append (stored text) (data_bytes groups) in
       let whole = stored_length text in
       let first : drop at bytes ≡ stored text ++ (data_bytes groups ++ rest) = e ∙ append_assoc (stored text) (data_bytes groups) rest in
@@ -184,10 +184,10 @@ module _ (opens : BlocksOpen) (kind : TableKind) where
           handle = handle;
           handle_is = handle_whole handle (omega (arith, room, small)) (omega (arith, size, whole, room, small));
           stored = stored_here bytes (data_bytes groups ++ rest) at Data text (cells 16 (pair ∷ group)) first (omega (arith, size, whole, room)) opened;
-          behind_last = ap (λ (l : List ℕ). is_le (internal_cmp l (last_key [] (pair ∷ group)))) (last_cell 16 0 0 [] (pair ∷ group)) ∙ internal_same (last_key [] (pair ∷ group));
+          behind_last = ap (λ (l : List ℕ). is_le (internal_cmp l (last_pair_key [] (pair ∷ group)))) (last_cell 16 0 0 [] (pair ∷ group)) ∙ internal_same (last_pair_key [] (pair ∷ group));
           before_first = first_known front known pair (map entry_of_pair group ++ behind) k order;
         },
-        data_written bytes rest groups (count + 1) (place + length (entry_bytes (shared_of 1 count key (last_key [] (pair ∷ group))) (last_key [] (pair ∷ group)) (handle_bytes handle))) (last_key [] (pair ∷ group)) (at + length (stored text)) (front ++ here) (Some (last_key [] (pair ∷ group)))
+        data_written bytes rest groups (count + 1) (place + length (entry_bytes (shared_of 1 count key (last_pair_key [] (pair ∷ group))) (last_pair_key [] (pair ∷ group)) (handle_bytes handle))) (last_pair_key [] (pair ∷ group)) (at + length (stored text)) (front ++ here) (Some (last_pair_key [] (pair ∷ group)))
             (last, last_behind front pair group, index_key) next (omega (arith, size, room)) small (ap in_order (append_assoc front here behind) ∙ order) some.1 parts.1,
       )
 

@@ -6,27 +6,27 @@ use Rattle.st_base.specs.declared.faults.TableFault.{TableFault}
 use Rattle.st_base.specs.declared.faults.TableFault.TheVariants.{Index}
 use Rattle.st_block.specs.Block.{Cell}
 use Rattle.st_block.specs.InternalKey.{internal_cmp}
-use Rattle.st_block.specs.Place.{Contents}
+use Rattle.st_block.specs.BlockContents.{BlockContents}
 use Rattle.st_block.specs.declared.kind.BlockKind.TheVariants.{Data}
 use Rattle.st_table.specs.Entries.{with_entries}
 use Rattle.st_table.specs.Footer.{value_handle}
-use Rattle.st_table.specs.Metaindex.{value_place}
+use Rattle.st_table.specs.Metaindex.{value_offset}
 use Rattle.st_table.specs.Steps.{◌>>=◌}
 use Rattle.st_table.specs.Stored.{block_at}
 use Rattle.st_table.specs.declared.kind.TableKind.{TableKind}
 
 -- the first and the last key of a block
-abbrev pub first_key : List Cell → List ℕ
-first_key [] = []
-first_key (cell ∷ cells) = cell.key
+abbrev pub first_cell_key : List Cell → List ℕ
+first_cell_key [] = []
+first_cell_key (cell ∷ cells) = cell.key
 
-abbrev pub last_key : List ℕ → List Cell → List ℕ
-last_key before [] = before
-last_key before (cell ∷ cells) = last_key cell.key cells
+abbrev pub last_cell_key : List ℕ → List Cell → List ℕ
+last_cell_key before [] = before
+last_cell_key before (cell ∷ cells) = last_cell_key cell.key cells
 
 -- the index key is at or after the last key of its block, and the index key before, where one is, is before its first
 abbrev pub parts : ℕ → List ℕ → List Cell → List ℕ → Bool
-parts block before cells key = is_le (internal_cmp (last_key [] cells) key) && ((block == 0) || is_lt (internal_cmp before (first_key cells)))
+parts block before cells key = is_le (internal_cmp (last_cell_key [] cells) key) && ((block == 0) || is_lt (internal_cmp before (first_cell_key cells)))
 
 abbrev pub parted : Bool → ℕ → List Entry → Result (List Entry) TableFault
 parted does block entries = if does then Ok entries else Err (Index block)
@@ -44,9 +44,9 @@ with_block kind bytes at block before key value front = do
 abbrev pub with_blocks : TableKind → List ℕ → ℕ → ℕ → ℕ → List ℕ → List Cell → List Entry → Result (List Entry) TableFault
 with_blocks kind bytes at end block before [] front = Ok front
 with_blocks kind bytes at end block before (cell ∷ cells) front =
-    with_block kind bytes (at + value_place end cell cells) block before cell.key cell.value front
+    with_block kind bytes (at + value_offset end cell cells) block before cell.key cell.value front
     >>= λ entries. with_blocks kind bytes at end (block + 1) cell.key cells entries
 
 -- the entries of the data blocks, joined in index order
-abbrev pub data_of : TableKind → List ℕ → ℕ → Contents → Result (List Entry) TableFault
+abbrev pub data_of : TableKind → List ℕ → ℕ → BlockContents → Result (List Entry) TableFault
 data_of kind bytes at index = with_blocks kind bytes at index.end 0 [] index.cells []

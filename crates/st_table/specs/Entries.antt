@@ -43,11 +43,11 @@ is_behind (Some before) key number = is_before key number before
 
 -- the fault of an entry that stands at a place of the table, behind another
 abbrev pub entry_fault : TableKind → ℕ → Option Entry → List ℕ → List ℕ → Option TableFault
-entry_fault kind place before internal value =
-    if not (is_kind (kind_of internal) value) then Some (Kind place (kind_of internal))
-    else (if not (may_have kind (number_of internal)) then Some (Number place (number_of internal))
+entry_fault kind index before internal value =
+    if not (is_kind (kind_of internal) value) then Some (Kind index (kind_of internal))
+    else (if not (may_have kind (number_of internal)) then Some (Number index (number_of internal))
     else (if nat_lt 1048576 (length value) then Some TooLarge
-    else (if not (is_behind before (user_key internal) (number_of internal)) then Some (Order place)
+    else (if not (is_behind before (user_key internal) (number_of internal)) then Some (Order index)
     else None)))
 
 -- the last of the entries
@@ -55,11 +55,11 @@ abbrev pub last_entry : List Entry → Option Entry
 last_entry entries = slice_get entries (length entries - 1)
 
 -- entries with one more behind them
-abbrev pub with_entry : TableKind → List Entry → List ℕ → List ℕ → Result (List Entry) TableFault
-with_entry kind front internal value =
+abbrev pub with_cell_entry : TableKind → List Entry → List ℕ → List ℕ → Result (List Entry) TableFault
+with_cell_entry kind front internal value =
     unless (entry_fault kind (length front) (last_entry front) internal value) (Ok (front ++ entry_under internal value ∷ []))
 
 -- entries with those of a block behind them
 abbrev pub with_entries : TableKind → List Entry → List Cell → Result (List Entry) TableFault
 with_entries kind front [] = Ok front
-with_entries kind front (cell ∷ cells) = with_entry kind front cell.key cell.value >>= λ entries. with_entries kind entries cells
+with_entries kind front (cell ∷ cells) = with_cell_entry kind front cell.key cell.value >>= λ entries. with_entries kind entries cells

@@ -4,12 +4,12 @@ use Rattle.std.specs.List.{AllByRecursion, flat_map}
 use Rattle.std.specs.Ordering.{is_lt, is_le}
 use Rattle.st_base.specs.Order.{in_order}
 use Rattle.st_base.specs.declared.entry.Entry.{Entry}
-use Rattle.st_block.specs.Block.{Cell, block_of, end_of, restarts_of}
+use Rattle.st_block.specs.Block.{Cell, block_of, entries_end, restarts_of}
 use Rattle.st_block.specs.InternalKey.{internal_cmp}
-use Rattle.st_block.specs.Place.{Contents}
+use Rattle.st_block.specs.BlockContents.{BlockContents}
 use Rattle.st_block.specs.declared.kind.BlockKind.{BlockKind}
 use Rattle.st_block.specs.declared.kind.BlockKind.TheVariants.{Data, Index, Plain}
-use Rattle.st_table.specs.DataBlocks.{first_key, last_key}
+use Rattle.st_table.specs.DataBlocks.{first_cell_key, last_cell_key}
 use Rattle.st_table.specs.Entries.{entry_under, is_kind, kind_of, may_have, number_of}
 use Rattle.st_table.specs.Footer.{checksum_of, greatest_size, handle_at, magic, magic_of, version_of}
 use Rattle.st_table.specs.Metaindex.{named_in, properties_name, range_del_name}
@@ -32,17 +32,17 @@ pub record IsFooter (bytes : List ℕ) (footer : Footer) : Type 0 where
   pub index_is : handle_at bytes index_at ≡ Some (footer.index, behind)
 
 -- a block of a kind stands where the handle says, before the footer, not compressed and under its sum
-pub record IsStored (bytes : List ℕ) (kind : BlockKind) (handle : Handle) (block : Contents) : Type 0 where
+pub record IsStored (bytes : List ℕ) (kind : BlockKind) (handle : Handle) (block : BlockContents) : Type 0 where
   pub inside : handle.offset + handle.size + 5 ≤ length bytes - 53
   pub uncompressed : compression bytes handle ≡ 0
   pub sum : stored_sum bytes handle ≡ found_sum bytes handle
   pub cells_are : block_of kind (contents_at bytes handle) ≡ Ok block.cells
-  pub end_is : block.end ≡ end_of (contents_at bytes handle)
+  pub end_is : block.end ≡ entries_end (contents_at bytes handle)
   pub kind_is : block.kind ≡ kind
   pub restarts_are : block.restarts ≡ restarts_of (contents_at bytes handle)
 
 -- the metaindex has no range deletions, and the handle of the properties as a whole value
-pub record IsMetaindex (metaindex : Contents) (properties : Handle) : Type 0 where
+pub record IsMetaindex (metaindex : BlockContents) (properties : Handle) : Type 0 where
   pub no_range_deletions : named_in range_del_name metaindex ≡ None
   pub at : ℕ
   pub value : List ℕ
@@ -50,25 +50,25 @@ pub record IsMetaindex (metaindex : Contents) (properties : Handle) : Type 0 whe
   pub handle_is : handle_at value 0 ≡ Some (properties, length value)
 
 -- an external table has the version 2 of external files; a comparator is the bytewise one, and an index type 0
-abbrev pub IsVersioned : TableKind → Contents → Type 0
+abbrev pub IsVersioned : TableKind → BlockContents → Type 0
 IsVersioned External properties = option_and_then fixed32_value (property version_name properties) ≡ Some 2
 IsVersioned Own properties = Unit {0}
 
-pub record AreProperties (kind : TableKind) (properties : Contents) : Type 0 where
+pub record AreProperties (kind : TableKind) (properties : BlockContents) : Type 0 where
   pub version : IsVersioned kind properties
   pub comparator : IfSome (property comparator_name properties) (λ value. value ≡ bytewise)
   pub index_type : IfSome (property index_type_name properties) (λ value. fixed32_value value ≡ Some 0)
 
 -- a data block: its index entry's value is its handle, as a whole, and its index key is at or after its last key and
 -- the index key before, where one is, is before its first
-pub record IsDataBlock (bytes : List ℕ) (before : Option (List ℕ)) (cell : Cell) (block : Contents) : Type 0 where
+pub record IsDataBlock (bytes : List ℕ) (before : Option (List ℕ)) (cell : Cell) (block : BlockContents) : Type 0 where
   pub handle : Handle
   pub handle_is : handle_at cell.value 0 ≡ Some (handle, length cell.value)
   pub stored : IsStored bytes Data handle block
-  pub behind_last : IsTrue (is_le (internal_cmp (last_key [] block.cells) cell.key))
-  pub before_first : IfSome before (λ key. IsTrue (is_lt (internal_cmp key (first_key block.cells))))
+  pub behind_last : IsTrue (is_le (internal_cmp (last_cell_key [] block.cells) cell.key))
+  pub before_first : IfSome before (λ key. IsTrue (is_lt (internal_cmp key (first_cell_key block.cells))))
 
-abbrev pub AreDataBlocks : List ℕ → Option (List ℕ) → List Cell → List Contents → Type 0
+abbrev pub AreDataBlocks : List ℕ → Option (List ℕ) → List Cell → List BlockContents → Type 0
 AreDataBlocks bytes before [] [] = Unit {0}
 AreDataBlocks bytes before [] (block ∷ blocks) = ⊥
 AreDataBlocks bytes before (cell ∷ cells) [] = ⊥
@@ -84,14 +84,14 @@ pub record IsEntry (kind : TableKind) (cell : Cell) : Type 0 where
 -- the blocks of a table
 pub record Blocks : Type 0 where
   pub footer : Footer
-  pub metaindex : Contents
+  pub metaindex : BlockContents
   pub properties_handle : Handle
-  pub properties : Contents
-  pub index : Contents
-  pub data_blocks : List Contents
+  pub properties : BlockContents
+  pub index : BlockContents
+  pub data_blocks : List BlockContents
 
 -- the entries of data blocks, joined
-abbrev pub joined : List Contents → List Cell
+abbrev pub joined : List BlockContents → List Cell
 joined blocks = flat_map (λ block. block.cells) blocks
 
 abbrev pub entries_under : List Cell → List Entry

@@ -4,7 +4,7 @@ use Rattle.std.specs.Int.{w32, from_le_bytes}
 use Rattle.st_base.specs.Bytes.{same}
 use Rattle.st_base.specs.declared.faults.TableFault.{TableFault}
 use Rattle.st_base.specs.declared.faults.TableFault.TheVariants.{ExternalVersion, Comparator, IndexKind}
-use Rattle.st_block.specs.Place.{Contents}
+use Rattle.st_block.specs.BlockContents.{BlockContents}
 use Rattle.st_table.specs.Metaindex.{named_in}
 use Rattle.st_table.specs.declared.kind.TableKind.{TableKind}
 use Rattle.st_table.specs.declared.kind.TableKind.TheVariants.{External, Own}
@@ -26,7 +26,7 @@ abbrev pub fixed32_value : List ℕ → Option ℕ
 fixed32_value value = if length value == 4 then Some (from_le_bytes w32 value) else None
 
 -- the value of a property
-abbrev pub property : List ℕ → Contents → Option (List ℕ)
+abbrev pub property : List ℕ → BlockContents → Option (List ℕ)
 property name block = option_map (λ found. found.1) (named_in name block)
 
 -- the version of external files must be there, and 2
@@ -34,7 +34,7 @@ abbrev pub versioned : Option ℕ → Option TableFault
 versioned None = Some (ExternalVersion None)
 versioned (Some version) = if version == 2 then None else Some (ExternalVersion (Some version))
 
-abbrev pub version_fault : TableKind → Contents → Option TableFault
+abbrev pub version_fault : TableKind → BlockContents → Option TableFault
 version_fault External block = versioned (option_and_then fixed32_value (property version_name block))
 version_fault Own block = None
 
@@ -43,7 +43,7 @@ abbrev pub compared : Option (List ℕ) → Option TableFault
 compared None = None
 compared (Some value) = if same value bytewise then None else Some Comparator
 
-abbrev pub comparator_fault : Contents → Option TableFault
+abbrev pub comparator_fault : BlockContents → Option TableFault
 comparator_fault block = compared (property comparator_name block)
 
 -- the index type, where it is there, must be 0
@@ -55,13 +55,13 @@ abbrev pub typed : Option (List ℕ) → Option TableFault
 typed None = None
 typed (Some value) = indexed (fixed32_value value)
 
-abbrev pub index_type_fault : Contents → Option TableFault
+abbrev pub index_type_fault : BlockContents → Option TableFault
 index_type_fault block = typed (property index_type_name block)
 
 -- the first fault of the properties
-abbrev pub or_else : Option TableFault → Option TableFault → Option TableFault
-or_else None other = other
-or_else (Some fault) other = Some fault
+abbrev pub or_fault : Option TableFault → Option TableFault → Option TableFault
+or_fault None other = other
+or_fault (Some fault) other = Some fault
 
-unfoldable pub properties_fault : TableKind → Contents → Option TableFault
-properties_fault kind block = or_else (version_fault kind block) (or_else (comparator_fault block) (index_type_fault block))
+unfoldable pub properties_fault : TableKind → BlockContents → Option TableFault
+properties_fault kind block = or_fault (version_fault kind block) (or_fault (comparator_fault block) (index_type_fault block))

@@ -7,8 +7,8 @@ use Rattle.st_base.specs.declared.faults.BlockFault.{BlockFault}
 use Rattle.st_base.specs.declared.faults.TableFault.{TableFault}
 use Rattle.st_base.specs.declared.faults.TableFault.TheVariants.{Compressed, Sum, Block}
 use Rattle.st_code.specs.Crc.{crc32c, mask}
-use Rattle.st_block.specs.Block.{Cell, block_of, end_of, restarts_of}
-use Rattle.st_block.specs.Place.{Contents}
+use Rattle.st_block.specs.Block.{Cell, block_of, entries_end, restarts_of}
+use Rattle.st_block.specs.BlockContents.{BlockContents}
 use Rattle.st_block.specs.declared.kind.BlockKind.{BlockKind}
 use Rattle.st_table.specs.declared.handle.Handle.{Handle}
 
@@ -27,13 +27,13 @@ abbrev pub found_sum : List ℕ → Handle → ℕ
 found_sum bytes handle = mask (crc32c (slice_range bytes handle.offset (handle.offset + handle.size + 1)))
 
 -- the entries of a block that begins at a place in the file, and where they end
-abbrev pub opened : BlockKind → ℕ → List ℕ → Result (List Cell) BlockFault → Result Contents TableFault
-opened kind at text (Ok cells) = Ok (record { kind = kind; end = end_of text; cells = cells; restarts = restarts_of text })
-opened kind at text (Err fault) = Err (Block at fault)
+abbrev pub opened_block : BlockKind → ℕ → List ℕ → Result (List Cell) BlockFault → Result BlockContents TableFault
+opened_block kind at text (Ok cells) = Ok (record { kind = kind; end = entries_end text; cells = cells; restarts = restarts_of text })
+opened_block kind at text (Err fault) = Err (Block at fault)
 
 -- the block of a handle that lies in the file, or its first fault
-unfoldable pub block_at : BlockKind → List ℕ → Handle → Result Contents TableFault
+unfoldable pub block_at : BlockKind → List ℕ → Handle → Result BlockContents TableFault
 block_at kind bytes handle =
     if not (compression bytes handle == 0) then Err (Compressed handle.offset)
     else (if not (stored_sum bytes handle == found_sum bytes handle) then Err (Sum handle.offset (stored_sum bytes handle) (found_sum bytes handle))
-    else opened kind handle.offset (contents_at bytes handle) (block_of kind (contents_at bytes handle)))
+    else opened_block kind handle.offset (contents_at bytes handle) (block_of kind (contents_at bytes handle)))

@@ -25,12 +25,12 @@ table_of kind bytes = do
   unless (properties_fault kind properties) (block_at Index bytes footer.index >>= data_of kind bytes footer.index.offset)
 
 -- the first fault in reading order, or none where the bytes are a table of the kind
-abbrev pub fault_of : {A : Type 0} → Result A TableFault → Option TableFault
-fault_of (Ok value) = None
-fault_of (Err fault) = Some fault
+abbrev pub table_fault_of : {A : Type 0} → Result A TableFault → Option TableFault
+table_fault_of (Ok value) = None
+table_fault_of (Err fault) = Some fault
 
 abbrev pub first_fault : List ℕ → TableKind → Option TableFault
-first_fault bytes kind = fault_of (table_of kind bytes)
+first_fault bytes kind = table_fault_of (table_of kind bytes)
 
 -- what a call answers is the first fault, unless memory ran out
 abbrev pub IsFirstFault : List ℕ → TableKind → OpenTableFault → Type 0

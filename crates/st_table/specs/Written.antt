@@ -9,7 +9,7 @@ use Rattle.st_base.specs.declared.entry.Mark.TheVariants.{Put, Gone}
 use Rattle.st_code.specs.Crc.{crc32c, mask}
 use Rattle.st_code.specs.Fixed.{fixed32, fixed64}
 use Rattle.st_code.specs.Varint.{varint}
-use Rattle.st_block.specs.Written.{Writing, added as added_to_block, entries_bytes, finished as finished_block, last_key, written_block, Holds as BlockHolds}
+use Rattle.st_block.specs.Written.{Writing, pair_added as added_to_block, entries_bytes, finished_block as finished_block, last_pair_key, written_block, HoldsPairs as BlockHolds}
 use Rattle.st_table.specs.Entries.{may_have}
 use Rattle.st_table.specs.Footer.{greatest_size, magic}
 use Rattle.st_table.specs.Metaindex.{properties_name}
@@ -83,7 +83,7 @@ data_bytes blocks = flat_map (λ pairs. stored (data_block pairs)) blocks
 -- their index entries, where the first of them begins at a place: the last key of each block, and its handle
 abbrev pub index_pairs : ℕ → List (List Pair) → List Pair
 index_pairs at [] = []
-index_pairs at (pairs ∷ blocks) = (last_key [] pairs, handle_bytes (record { offset = at; size = length (data_block pairs) })) ∷ index_pairs (at + length (stored (data_block pairs))) blocks
+index_pairs at (pairs ∷ blocks) = (last_pair_key [] pairs, handle_bytes (record { offset = at; size = length (data_block pairs) })) ∷ index_pairs (at + length (stored (data_block pairs))) blocks
 
 -- ---- what stands behind the data blocks
 
@@ -169,15 +169,15 @@ abbrev pub with_data_block : Writer → Writing → Writer
 with_data_block writer block = if nat_le 4096 (length block.entries) then with_closed writer block else with_open writer block
 
 -- with an entry more
-abbrev pub added : Writer → Entry → Writer
-added writer entry = with_data_block writer (added_to_block writer.block (internal_key entry) (value_under entry.mark))
+abbrev pub entry_added : Writer → Entry → Writer
+entry_added writer entry = with_data_block writer (added_to_block writer.block (internal_key entry) (value_under entry.mark))
 
 -- the table of what was added: a block with entries is closed at the end
 abbrev pub finished_with : TableKind → ℕ → List ℕ → Writing → Writing → List ℕ
 finished_with kind count blocks block index = table_bytes kind count (blocks ++ stored (finished_block block)) (finished_block (indexed_block index (length blocks) block))
 
-abbrev pub finished : Writer → List ℕ
-finished writer =
+abbrev pub finished_table : Writer → List ℕ
+finished_table writer =
     if writer.block.count == 0 then table_bytes writer.kind writer.count writer.blocks (finished_block writer.index)
     else finished_with writer.kind writer.count writer.blocks writer.block writer.index
 
@@ -191,8 +191,8 @@ pub record HoldsCut (writer : Writer) (entries : ℕ) (cut : Cut) : Type 0 where
   pub index_interval : writer.index.interval ≡ 1
 
 -- these entries were added
-abbrev pub Holds : Writer → List Entry → Type 0
-Holds writer entries = HoldsCut writer (length entries) (cut_of (map pair_of entries))
+abbrev pub HoldsEntries : Writer → List Entry → Type 0
+HoldsEntries writer entries = HoldsCut writer (length entries) (cut_of (map pair_of entries))
 
 -- ---- what may be written
 
@@ -209,6 +209,6 @@ pub record MayBeTable (kind : TableKind) (entries : List Entry) : Type 0 where
 
 -- what a writer keeps: the finished table is within the limit of its kind, and counts fit 64 bits
 pub record IsWriter (writer : Writer) : Type 0 where
-  pub fits : length (finished writer) ≤ greatest_size writer.kind
+  pub fits : length (finished_table writer) ≤ greatest_size writer.kind
   pub blocks_short : length writer.blocks < 2 ^ 32
   pub counted : writer.count ≤ length writer.blocks + length writer.block.entries

@@ -2,7 +2,7 @@ ghost use Rattle.std.specs.Prelude.{◌≡◌, ◌+◌, ◌<◌, ◌^◌, [], Ok
 ghost use Rattle.std.specs.Ordering.{is_lt};
 ghost use Rattle.st_base.specs.Rows.{AreRows};
 ghost use Rattle.st_block.specs.InternalKey.{internal_cmp};
-ghost use Rattle.st_table.specs.DataBlocks.{data_of, first_key, last_key, parts, with_block};
+ghost use Rattle.st_table.specs.DataBlocks.{data_of, first_cell_key, last_cell_key, parts, with_block};
 ghost use Rattle.st_table.specs.Steps.{Fails};
 
 use crate::entries::push_entries;
@@ -31,7 +31,7 @@ struct IndexEntry<'a> {
 
 // Whether the index key before is before the block's first key.
 fn is_past(before: &[u8], block: &Block, scratch: &mut Scratch) -> bool
-    ensures { result ≡ is_lt (internal_cmp before.now (first_key block.now.cells)) }
+    ensures { result ≡ is_lt (internal_cmp before.now (first_cell_key block.now.cells)) }
 {
     let start = block.start();
     match block.read(start, scratch) {
@@ -43,7 +43,7 @@ fn is_past(before: &[u8], block: &Block, scratch: &mut Scratch) -> bool
 // Whether the index key parts its block from the next, and the one before it from that before. The block's last key
 // stands in the scratch.
 fn parts(item: IndexEntry, block: &Block, scratch: &mut Scratch) -> bool
-    requires { scratch.old ≡ last_key [] block.now.cells }
+    requires { scratch.old ≡ last_cell_key [] block.now.cells }
     ensures { result ≡ parts item.entry.block item.entry.before.now block.now.cells item.entry.key.now }
 {
     let is_behind = internal_cmp(scratch.as_slice(), item.key).is_le();
@@ -92,9 +92,9 @@ pub(crate) fn data_of(
     let mut before = Scratch::new(alloc)?;
     let mut data_scratch = Scratch::new(alloc)?;
     let mut entries = EntryArena::new(alloc);
-    let mut place = index.start();
+    let mut offset = index.start();
     let mut block = 0;
-    while let Some(entry) = index.read(place, &mut scratch) {
+    while let Some(entry) = index.read(offset, &mut scratch) {
         let item = IndexEntry {
             key: scratch.as_slice(),
             value: entry.value,
@@ -105,7 +105,7 @@ pub(crate) fn data_of(
         push_block(bytes, kind, item, &mut entries, &mut data_scratch)?;
         before.keep_and_add(0, scratch.as_slice());
         block += 1;
-        place = entry.next;
+        offset = entry.next;
     }
     Ok(entries)
 }

@@ -1,6 +1,6 @@
 ghost use Rattle.std.specs.Prelude.{◌≡◌, ◌+◌, ◌*◌, ◌<◌, ◌≤◌, ◌^◌, List, ℕ, [], ◌∷◌, ◌++◌, length, IfOk, OnOk};
 ghost use Rattle.st_code.specs.Varint.{varint};
-ghost use Rattle.st_block.specs.Written.{Holds};
+ghost use Rattle.st_block.specs.Written.{HoldsPairs};
 ghost use Rattle.st_table.specs.Written.{Pair, ending, metaindex_block, properties_block, stored};
 ghost use Rattle.st_table.specs.declared.kind.TableKind.TheVariants.{External, Own};
 
@@ -14,7 +14,7 @@ use std::alloc::{AllocError, Global};
 
 // A writer of a block of names, each of which is a restart.
 fn name_writer(alloc: Global) -> Result<BlockWriter, AllocError>
-    ensures holds { IfOk result (λ writer. Holds writer []) }
+    ensures holds { IfOk result (λ writer. HoldsPairs writer []) }
     ensures interval { IfOk result (λ writer. writer.interval ≡ 1) }
     ensures size { IfOk result (λ writer. length writer.entries + 4 * length writer.restarts ≡ 0) }
 {
@@ -24,7 +24,7 @@ fn name_writer(alloc: Global) -> Result<BlockWriter, AllocError>
 // Puts a value under a name at the end.
 fn add_name(writer: &mut BlockWriter, name: &[u8], value: &[u8]) -> Result<(), AllocError>
     requires { length writer.old.entries + 4 * length writer.old.restarts + length name.now + length value.now ≤ 10000 }
-    ensures holds { (pairs : List Pair) → Holds writer.old pairs → OnOk result (Holds writer.new (pairs ++ (name.now, value.now) ∷ [])) }
+    ensures holds { (pairs : List Pair) → HoldsPairs writer.old pairs → OnOk result (HoldsPairs writer.new (pairs ++ (name.now, value.now) ∷ [])) }
     ensures interval { OnOk result (writer.new.interval ≡ writer.old.interval) }
     ensures size { OnOk result (length writer.new.entries + 4 * length writer.new.restarts ≤ length writer.old.entries + 4 * length writer.old.restarts + length name.now + length value.now + 34) }
 {

@@ -2,8 +2,8 @@ ghost use Rattle.std.specs.Prelude.{◌≡◌, ◌≤◌, ◌/◌, ◌%◌, [], 
 ghost use Rattle.st_base.specs.Order.{in_order};
 ghost use Rattle.st_base.specs.Rows.{AreRows, entry_of, mark_of};
 ghost use Rattle.st_block.specs.InternalKey.{user_key};
-ghost use Rattle.st_table.specs.DataBlocks.{last_key};
-ghost use Rattle.st_table.specs.Entries.{entry_fault, entry_under, is_behind, is_kind, mark_under, may_have, with_entries, with_entry};
+ghost use Rattle.st_table.specs.DataBlocks.{last_cell_key};
+ghost use Rattle.st_table.specs.Entries.{entry_fault, entry_under, is_behind, is_kind, mark_under, may_have, with_entries, with_cell_entry};
 ghost use Rattle.st_table.specs.Steps.{Fails};
 
 use crate::entry_arena::EntryArena;
@@ -56,27 +56,27 @@ fn user_key(internal: &[u8]) -> &[u8]
 // The fault of an entry that stands at the place of the table, behind another.
 fn entry_fault(
     kind: TableKind,
-    place: u64,
+    index: u64,
     before: Option<EntryRef<'_>>,
     internal: &[u8],
     value: &[u8],
 ) -> Option<TableFault>
     requires { length internal.now ≤ INTERNAL_KEY_BYTES }
-    ensures { result ≡ entry_fault kind place (option_map entry_of before.entry) internal.now value.now }
+    ensures { result ≡ entry_fault kind index (option_map entry_of before.entry) internal.now value.now }
 {
     let packed = packed(internal);
     let number = packed / 256;
     if !is_kind(packed % 256, value) {
-        return Some(TableFault::Kind(place, (packed % 256) as u8));
+        return Some(TableFault::Kind(index, (packed % 256) as u8));
     }
     if !may_have(kind, number) {
-        return Some(TableFault::Number(place, number));
+        return Some(TableFault::Number(index, number));
     }
     if value.len() > VALUE_BYTES {
         return Some(TableFault::TooLarge);
     }
     if !is_behind(before, user_key(internal), number) {
-        return Some(TableFault::Order(place));
+        return Some(TableFault::Order(index));
     }
     None
 }
@@ -113,13 +113,13 @@ fn push_entry(
     value: &[u8],
 ) -> Result<(), OpenTableFault>
     requires { length internal.now ≤ INTERNAL_KEY_BYTES }
-    ensures ok { OnOk result (with_entry kind entries.old internal.now value.now ≡ Ok entries.new) }
+    ensures ok { OnOk result (with_cell_entry kind entries.old internal.now value.now ≡ Ok entries.new) }
     ensures rows { AreRows entries.old → OnOk result (AreRows entries.new) }
-    ensures err { IfErr result (λ fault. Fails fault (with_entry kind entries.old internal.now value.now)) }
+    ensures err { IfErr result (λ fault. Fails fault (with_cell_entry kind entries.old internal.now value.now)) }
 {
-    let place = entries.len() as u64;
+    let index = entries.len() as u64;
     let before = entries.last();
-    match entry_fault(kind, place, before, internal, value) {
+    match entry_fault(kind, index, before, internal, value) {
         Some(fault) => Err(fault.into()),
         None => {
             entries.push(entry_under(internal, value))?;
@@ -138,7 +138,7 @@ pub(crate) fn push_entries(
 ) -> Result<(), OpenTableFault>
     ensures ok { OnOk result (with_entries kind entries.old block.now.cells ≡ Ok entries.new) }
     ensures rows { AreRows entries.old → OnOk result (AreRows entries.new) }
-    ensures last { OnOk result (scratch.new ≡ last_key scratch.old block.now.cells) }
+    ensures last { OnOk result (scratch.new ≡ last_cell_key scratch.old block.now.cells) }
     ensures err { IfErr result (λ fault. Fails fault (with_entries kind entries.old block.now.cells)) }
 {
     let mut at = block.start();

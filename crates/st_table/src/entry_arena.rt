@@ -7,7 +7,7 @@
 //! Each entry has a place that says where its key begins and ends and where its value ends. A tombstone has no value.
 ghost use Rattle.std.specs.Prelude.{◌≡◌, ◌≤◌, ◌<◌, [], ◌∷◌, ◌++◌, length, take, OnOk, IfOk, Some, slice_get, map, option_map};
 ghost use Rattle.st_base.specs.Rows.{entry_of, mark_of};
-ghost use Rattle.st_table.specs.EntryArena.{EndsValue, Lies, entry_in, mark_in, numbered};
+ghost use Rattle.st_table.specs.EntryArena.{EndsValue, Lies, entry_in, mark_in, slot_numbered};
 ghost use Rattle.st_table.specs.Entries.{last_entry};
 ghost use Rattle.st_table.specs.Table.{acting};
 
@@ -17,7 +17,7 @@ use std::marker::Model;
 
 /// Where an entry lies in an arena, by offsets in bytes, and its sequence number.
 #[derive(Clone, Copy)]
-struct EntryPlace {
+struct EntrySlot {
     /// Where its key begins.
     start: usize,
     /// Where its key ends, and its value begins.
@@ -31,7 +31,7 @@ struct EntryPlace {
 #[derive(Drop)]
 pub(crate) struct EntryArena {
     bytes: Bytes,
-    places: List<EntryPlace>,
+    slots: List<EntrySlot>,
 }
 
 impl Model for EntryArena {
@@ -42,9 +42,9 @@ impl Model for EntryArena {
 
     ghost Value = { List Entry };
 
-    ghost view = { λ arena. map (entry_in arena.bytes) arena.places };
+    ghost view = { λ arena. map (entry_in arena.bytes) arena.slots };
 
-    ghost invariant = { λ arena. AllByRecursion (Lies (length arena.bytes)) arena.places };
+    ghost invariant = { λ arena. AllByRecursion (Lies (length arena.bytes)) arena.slots };
 }
 
 // Puts the value of a mark at the end, and answers where it ends, if there is one.
@@ -63,16 +63,16 @@ fn append_mark(bytes: &mut Bytes, mark: MarkRef<'_>) -> Result<Option<usize>, Al
 }
 
 // Puts the key and the value of an entry at the end, and answers where they lie.
-fn append_entry(bytes: &mut Bytes, entry: EntryRef<'_>) -> Result<EntryPlace, AllocError>
+fn append_entry(bytes: &mut Bytes, entry: EntryRef<'_>) -> Result<EntrySlot, AllocError>
     ensures kept { take (length bytes.old) bytes.new ≡ bytes.old }
-    ensures entry { IfOk result (λ place. entry_in bytes.new place ≡ entry_of entry.entry) }
-    ensures lies { IfOk result (λ place. Lies (length bytes.new) place) }
+    ensures entry { IfOk result (λ slot. entry_in bytes.new slot ≡ entry_of entry.entry) }
+    ensures lies { IfOk result (λ slot. Lies (length bytes.new) slot) }
 {
     let start = bytes.len();
     bytes.extend_from_slice(entry.key)?;
     let key_end = bytes.len();
     let value_end = append_mark(bytes, entry.mark)?;
-    Ok(EntryPlace {
+    Ok(EntrySlot {
         start,
         key_end,
         value_end,
@@ -81,26 +81,26 @@ fn append_entry(bytes: &mut Bytes, entry: EntryRef<'_>) -> Result<EntryPlace, Al
 }
 
 // The entry that lies at a place.
-fn entry_ref(bytes: &[u8], place: EntryPlace) -> EntryRef<'_>
-    requires { Lies (length bytes.now) place }
-    ensures { entry_of result ≡ entry_in bytes.now place }
+fn entry_ref(bytes: &[u8], slot: EntrySlot) -> EntryRef<'_>
+    requires { Lies (length bytes.now) slot }
+    ensures { entry_of result ≡ entry_in bytes.now slot }
 {
-    let mark = match place.value_end {
-        Some(end) => MarkRef::Put(&bytes[place.key_end..end]),
+    let mark = match slot.value_end {
+        Some(end) => MarkRef::Put(&bytes[slot.key_end..end]),
         None => MarkRef::Gone,
     };
     EntryRef {
-        key: &bytes[place.start..place.key_end],
-        number: place.number,
+        key: &bytes[slot.start..slot.key_end],
+        number: slot.number,
         mark,
     }
 }
 
 // The places under a number.
-fn numbered(places: List<EntryPlace>, number: u64) -> List<EntryPlace>
-    ensures { result ≡ map (numbered number) places }
+fn numbered(slots: List<EntrySlot>, number: u64) -> List<EntrySlot>
+    ensures { result ≡ map (slot_numbered number) slots }
 {
-    let mut items = places.into_vec();
+    let mut items = slots.into_vec();
     for at in 0..items.len() {
         items[at].number = number;
     }
@@ -114,7 +114,7 @@ impl EntryArena {
     {
         EntryArena {
             bytes: Bytes::new(alloc),
-            places: List::new(alloc),
+            slots: List::new(alloc),
         }
     }
 
@@ -122,23 +122,23 @@ impl EntryArena {
     pub(crate) fn len(&self) -> usize
         ensures { result ≡ length self.now }
     {
-        self.places.len()
+        self.slots.len()
     }
 
     /// The entry at the place.
-    pub(crate) fn entry(&self, place: usize) -> EntryRef<'_>
-        requires { place < length self.now }
-        ensures { slice_get self.now place ≡ Some (entry_of result) }
+    pub(crate) fn entry(&self, slot: usize) -> EntryRef<'_>
+        requires { slot < length self.now }
+        ensures { slice_get self.now slot ≡ Some (entry_of result) }
     {
-        entry_ref(self.bytes.as_slice(), self.places.as_slice()[place])
+        entry_ref(self.bytes.as_slice(), self.slots.as_slice()[slot])
     }
 
     /// The entry at the place, if there is one.
-    pub(crate) fn get(&self, place: usize) -> Option<EntryRef<'_>>
-        ensures { option_map entry_of result ≡ slice_get self.now place }
+    pub(crate) fn get(&self, slot: usize) -> Option<EntryRef<'_>>
+        ensures { option_map entry_of result ≡ slice_get self.now slot }
     {
-        if place < self.len() {
-            Some(self.entry(place))
+        if slot < self.len() {
+            Some(self.entry(slot))
         } else {
             None
         }
@@ -155,8 +155,8 @@ impl EntryArena {
     pub(crate) fn push(&mut self, entry: EntryRef<'_>) -> Result<(), AllocError>
         ensures { OnOk result (self.new ≡ self.old ++ entry_of entry.entry ∷ []) }
     {
-        let place = append_entry(&mut self.bytes, entry)?;
-        self.places.push(place)?;
+        let slot = append_entry(&mut self.bytes, entry)?;
+        self.slots.push(slot)?;
         Ok(())
     }
 
@@ -169,7 +169,7 @@ impl EntryArena {
         }
         EntryArena {
             bytes: self.bytes,
-            places: numbered(self.places, number),
+            slots: numbered(self.slots, number),
         }
     }
 }

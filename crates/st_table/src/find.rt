@@ -57,6 +57,6 @@ pub(crate) fn newest_in<'a>(
     ensures { option_map (λ found. (found.0, mark_of found.1)) result ≡ newest entries.now key.now number }
 {
     lower_place_parts_entries();
-    let place = lower_in(entries, key, number);
-    newest_there(key, entries.get(place))
+    let index = lower_in(entries, key, number);
+    newest_there(key, entries.get(index))
 }

@@ -3,7 +3,7 @@ ghost use Rattle.st_base.specs.declared.entry.Entry.{Entry};
 ghost use Rattle.st_table.specs.Footer.{greatest_size};
 ghost use Rattle.st_table.specs.IsTable.{IsTable};
 ghost use Rattle.st_table.specs.Table.{first_fault, keys_rise};
-ghost use Rattle.st_table.specs.Written.{Holds, MayBeTable, Writer, added, written_table};
+ghost use Rattle.st_table.specs.Written.{HoldsEntries, MayBeTable, Writer, entry_added, written_table};
 ghost use Rattle.st_table.specs.declared.kind.TableKind.{TableKind};
 ghost use Rattle.st_table.specs.declared.kind.TableKind.TheVariants.{External};
 
@@ -19,7 +19,7 @@ pub fn table_or_first_fault()
 
 /// Who adds an entry to a writer that holds some adds it behind them.
 pub fn table_writer_holds_what_is_added()
-    ensures { (writer : Writer) (entries : List Entry) (entry : Entry) → Holds writer entries → Holds (added writer entry) (entries ++ entry ∷ []) }
+    ensures { (writer : Writer) (entries : List Entry) (entry : Entry) → HoldsEntries writer entries → HoldsEntries (entry_added writer entry) (entries ++ entry ∷ []) }
 {}
 
 /// The written table of entries is a table of its kind with these entries, where they are in strict order, each may stand

@@ -8,7 +8,7 @@ use st_block::Block;
 
 /// A value that stands under a name in a block.
 #[derive(Clone, Copy)]
-pub(crate) struct Named<'a> {
+pub(crate) struct NamedValue<'a> {
     pub(crate) value: &'a [u8],
     /// Where it begins in the block.
     pub(crate) at: usize,
@@ -19,14 +19,14 @@ pub(crate) fn named_in<'a>(
     block: &'a Block,
     name: &[u8],
     scratch: &mut Scratch,
-) -> Option<Named<'a>>
+) -> Option<NamedValue<'a>>
     ensures value { option_map found_of result ≡ named_in name.now block.now }
     ensures within { IfSome result (λ found. found.at ≤ block.now.end) }
 {
     let mut at = block.start();
     while let Some(entry) = block.read(at, scratch) {
         if scratch.as_slice() == name {
-            return Some(Named {
+            return Some(NamedValue {
                 value: entry.value,
                 at: entry.next - entry.value.len(),
             });

@@ -1,10 +1,10 @@
 ghost use Rattle.std.specs.Prelude.{◌≡◌, ◌+◌, ◌<◌, ◌≤◌, ◌^◌, ℕ, List, [], Err, length, nat_le, IfOk, OnOk, OnErr};
 ghost use Rattle.st_base.specs.Rows.{FitsMark, entry_of, mark_of};
 ghost use Rattle.st_base.specs.declared.entry.Entry.{Entry};
-ghost use Rattle.st_block.specs.Written.{added as added_to_block};
+ghost use Rattle.st_block.specs.Written.{pair_added as added_to_block};
 ghost use Rattle.st_table.specs.Footer.{greatest_size};
 ghost use Rattle.st_table.specs.IsTable.{IsTable};
-ghost use Rattle.st_table.specs.Written.{Holds, MayBeTable, added, finished, finished_with, internal_key, table_bytes, value_under, with_data_block, with_closed, written_table};
+ghost use Rattle.st_table.specs.Written.{HoldsEntries, MayBeTable, entry_added, finished_table, finished_with, internal_key, table_bytes, value_under, with_data_block, with_closed, written_table};
 ghost use Rattle.st_table.specs.declared.writer.AddFault.TheVariants.{OutOfMemory};
 
 use crate::ending::ending;
@@ -101,7 +101,7 @@ fn whole_table(
     Ok(out)
 }
 
-/// A writer of one table. Contracts see what it has so far; `Holds` says which entries these are. That they stand in the
+/// A writer of one table. Contracts see what it has so far; `HoldsEntries` says which entries these are. That they stand in the
 /// order of the table's kind isn't asked for, but a premise of the law that what was written opens again.
 #[derive(Drop)]
 pub struct TableWriter {
@@ -128,7 +128,7 @@ impl TableWriter {
     /// A writer of a table of this kind, without entries.
     pub fn new(alloc: Global, kind: TableKind) -> Result<TableWriter, AllocError>
         ensures kind { IfOk result (λ writer. writer.kind ≡ kind) }
-        ensures holds { IfOk result (λ writer. Holds writer []) }
+        ensures holds { IfOk result (λ writer. HoldsEntries writer []) }
     {
         let block = BlockWriter::new(alloc, RESTART_INTERVAL)?;
         let index = BlockWriter::new(alloc, 1)?;
@@ -280,9 +280,9 @@ impl TableWriter {
         requires key { length entry.key.now ≤ 65535 }
         requires mark { FitsMark (mark_of entry.mark) }
         requires number { entry.number < 2 ^ 56 }
-        ensures ok { OnOk result (self.new ≡ added self.old (entry_of entry.entry)) }
-        ensures fits { OnOk result (length (finished (added self.old (entry_of entry.entry))) ≤ greatest_size self.old.kind) }
-        ensures too_large { result ≡ Err AddFault.TooLarge → greatest_size self.old.kind < length (finished (added self.old (entry_of entry.entry))) }
+        ensures ok { OnOk result (self.new ≡ entry_added self.old (entry_of entry.entry)) }
+        ensures fits { OnOk result (length (finished_table (entry_added self.old (entry_of entry.entry))) ≤ greatest_size self.old.kind) }
+        ensures too_large { result ≡ Err AddFault.TooLarge → greatest_size self.old.kind < length (finished_table (entry_added self.old (entry_of entry.entry))) }
         ensures err { OnErr result (self.new ≡ self.old) }
     {
         let room = mem::replace(&mut self.room, Bytes::new(alloc));
@@ -294,7 +294,7 @@ impl TableWriter {
 
     // The table of what was added.
     fn finished(&self, alloc: Global) -> Result<Bytes, AllocError>
-        ensures value { IfOk result (λ bytes. bytes ≡ finished self.now) }
+        ensures value { IfOk result (λ bytes. bytes ≡ finished_table self.now) }
         ensures fits { IfOk result (λ bytes. length bytes ≤ greatest_size self.now.kind) }
     {
         let mut blocks = Bytes::from_slice(alloc, self.blocks.as_slice())?;
@@ -318,9 +318,9 @@ impl TableWriter {
     /// The table of what was added. It is within the limit of its kind, and a table with these entries where they are in
     /// strict order and each may stand in a table of that kind.
     pub fn finish(&self, alloc: Global) -> Result<Bytes, AllocError>
-        ensures value { IfOk result (λ bytes. bytes ≡ finished self.now) }
-        ensures written { IfOk result (λ bytes. (entries : List Entry) → Holds self.now entries → bytes ≡ written_table self.now.kind entries) }
-        ensures table { IfOk result (λ bytes. (entries : List Entry) → Holds self.now entries → MayBeTable self.now.kind entries → IsTable bytes self.now.kind entries) }
+        ensures value { IfOk result (λ bytes. bytes ≡ finished_table self.now) }
+        ensures written { IfOk result (λ bytes. (entries : List Entry) → HoldsEntries self.now entries → bytes ≡ written_table self.now.kind entries) }
+        ensures table { IfOk result (λ bytes. (entries : List Entry) → HoldsEntries self.now entries → MayBeTable self.now.kind entries → IsTable bytes self.now.kind entries) }
         ensures fits { IfOk result (λ bytes. length bytes ≤ greatest_size self.now.kind) }
     {
         written_table_opens();

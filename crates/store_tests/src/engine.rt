@@ -2,13 +2,13 @@
 ghost use Rattle.std.specs.Prelude.{IfOk};
 ghost use Rattle.st_device.specs.Disk.{IsHonest};
 ghost use Rattle.st_device.specs.MemDisk.{told};
-ghost use Rattle.st_engine.specs.Engine.{IsTied};
-ghost use Rattle.st_engine.specs.Op.{IsWrite};
+ghost use Rattle.log_engine.specs.Engine.{IsTied};
+ghost use Rattle.log_engine.specs.Op.{IsWrite};
 
 use crate::outside::disk;
 use st_base::{Family, Key, List, Value};
 use st_device::MemDisk;
-use st_engine::{Engine, Options, Wrote};
+use log_engine::{Engine, Options, AcceptedWrite};
 use st_model::{Batch, Op, Refusal};
 use std::alloc::Global;
 use std::test::Fail;
@@ -41,7 +41,7 @@ fn new_engine(alloc: Global, failing: u64, capacity: u64) -> Result<Engine<MemDi
 }
 
 // The answer of a write: its place with its first and last number, where it is accepted.
-fn numbers(answer: &Result<Wrote, Refusal>) -> Option<(u64, u64, u64)> {
+fn numbers(answer: &Result<AcceptedWrite, Refusal>) -> Option<(u64, u64, u64)> {
     match answer {
         Ok(wrote) => Some((wrote.place, wrote.first, wrote.last)),
         Err(_) => None,
@@ -53,7 +53,7 @@ fn write_twice(
     engine: &mut Engine<MemDisk>,
     one: &Batch,
     two: &Batch,
-) -> (Result<Wrote, Refusal>, Result<Wrote, Refusal>)
+) -> (Result<AcceptedWrite, Refusal>, Result<AcceptedWrite, Refusal>)
     requires one { IsWrite one.now.ops }
     requires two { IsWrite two.now.ops }
     requires tied { IsHonest (told engine.old.disk) → IsTied engine.old.wal engine.old.store (told engine.old.disk) }

@@ -1,5 +1,5 @@
 ghost use Rattle.std.specs.Prelude.{IsTrue};
-ghost use Rattle.st_block.specs.Place.{keys_rise};
+ghost use Rattle.st_block.specs.BlockContents.{internal_keys_rise};
 
 use crate::samples::shared;
 use st_base::{BlockFault, Scratch};
@@ -202,7 +202,7 @@ static LOOKED_FOR: [(&[u8], u64, usize); 9] = [
 
 // Whether each of them is found at its place.
 fn are_found(block: &Block, scratch: &mut Scratch) -> bool
-    requires { IsTrue (keys_rise block.now.cells) }
+    requires { IsTrue (internal_keys_rise block.now.cells) }
 {
     for case in LOOKED_FOR.iter() {
         if block.lower(case.0, case.1, scratch) != case.2 {

@@ -3,9 +3,9 @@ use Rattle.std.proofs.lemmas.List.{map-append, take_all, take_more}
 use Rattle.st_base.specs.Count.{Rose}
 use Rattle.st_device.specs.Disk.{Image, IsHonest}
 use Rattle.st_device.proofs.Moments.{passes_start, passes_then}
-use Rattle.st_engine.specs.Engine.{OpensTo}
-use Rattle.st_engine.specs.Store.{Stands}
-use Rattle.st_engine.proofs.Writing.{tied_opens}
+use Rattle.log_engine.specs.Engine.{OpensTo}
+use Rattle.log_engine.specs.MarkStore.{StandsForState}
+use Rattle.log_engine.proofs.Writing.{tied_opens}
 use Rattle.st_model.specs.declared.command.Asked.{Asked}
 use Rattle.st_model.specs.declared.state.ModelState.{ModelState}
 use Rattle.st_model.specs.Asked.{asked_of}
@@ -18,7 +18,7 @@ loop-numbered-init g c =
     let engine = c.args.engine.now in
     let disk = g.D.Disk.tells engine.disk in
     let clock = g.met.D.Disk.clock engine.disk in
-    let opens : (opening : ModelState) → Stands engine.store opening → IsHonest disk → (image : Image) → disk.now image → OpensTo opening image = λ opening h honest image now. tied_opens engine.wal engine.store opening (c.requires.tied honest) h image now in
+    let opens : (opening : ModelState) → StandsForState engine.store opening → IsHonest disk → (image : Image) → disk.now image → OpensTo opening image = λ opening h honest image now. tied_opens engine.wal engine.store opening (c.requires.tied honest) h image now in
     record {
       passes = passes_start clock;
       capacity = refl;
@@ -56,10 +56,10 @@ loop-numbered-preserved g c =
           (λ (rose : Rose (g.D.Disk.tells old.disk).faults (g.D.Disk.tells new.disk).faults). inr (rose_then (g.D.Disk.tells first.disk).faults (g.D.Disk.tells old.disk).faults (g.D.Disk.tells new.disk).faults i.passes.faults rose))
           e.cause;
       tied = λ honest running. e.tied (i.passes.honest_on honest) running;
-      along = λ (opening : ModelState) (h : Stands first.store opening) (place : opening.place ≡ 0).
+      along = λ (opening : ModelState) (h : StandsForState first.store opening) (place : opening.place ≡ 0).
           subst (λ asks. Along c.args.name.now c.print_answer.new.text opening (g.D.Disk.tells first.disk) (g.D.Disk.tells new.disk) new.store new.stopped asks) taken
           (along_grows g.D.Disk.tells c.args.name.now c.loop-numbered.text c.print_answer.new.text opening (g.D.Disk.tells first.disk) old.disk new.disk old.store new.store old.stopped new.stopped (map asked (take c.loop-numbered.numbered-index items)) command
-          i.passes e.passes (i.capacity ∙ c.requires.capacity) (i.along opening h place) e.printed e.still);
+          i.passes e.passes (i.capacity ∙ c.requires.capacity) (i.along opening h place) e.printed e.untouched);
     }
 
 pub returns-clause-answered : goal.returns-clause-answered

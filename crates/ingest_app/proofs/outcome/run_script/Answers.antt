@@ -2,7 +2,7 @@ use Rattle.std.proofs.Common.{◌≡◌, refl}
 use Rattle.ingest_app.specs.Client.{EndsAnswered, opening_of}
 use Rattle.ingest_app.specs.Run.{EndsOpening, EndsScript}
 use Rattle.ingest_app.specs.declared.outcome.Outcome.{Outcome}
-use Rattle.st_engine.specs.Store.{Stands}
+use Rattle.log_engine.specs.MarkStore.{StandsForState}
 use Rattle.st_model.specs.declared.state.ModelState.{ModelState}
 use Rattle.ingest_app.proofs.Answering.{if_ok_map}
 use Rattle.ingest_app.proofs.Opening.{answered_ends, opening_ends}
@@ -17,7 +17,7 @@ returns-in-Ok-clause-ends g c =
     let after = g.D.Disk.tells c.run_engine.result.1 in
     let e = c.in-Ok.ensures in
     let opened = e.opened in
-    if_ok_map (λ (outcome : Outcome). (opening : ModelState) → Stands c.in-Ok.engine.store opening → opening.place ≡ 0 → EndsAnswered name commands opening mid after outcome.status outcome.text)
+    if_ok_map (λ (outcome : Outcome). (opening : ModelState) → StandsForState c.in-Ok.engine.store opening → opening.place ≡ 0 → EndsAnswered name commands opening mid after outcome.status outcome.text)
     (λ (outcome : Outcome). EndsScript commands name before after outcome.status outcome.text) c.run_engine.result.0
     (λ outcome ends. answered_ends name commands outcome.text before mid after opened.ops e.passes c.run_engine.ensures.passes opened.read e.crash outcome.status (ends (opening_of opened.ops) opened.stands refl))
     c.run_engine.ensures.ends

@@ -2,7 +2,7 @@ use Rattle.std.proofs.Common.{◌+◌, ◌-◌, ◌*◌, ◌^◌, ◌/◌, ◌�
 use Rattle.std.specs.Int.{w32, from_le_bytes}
 use Rattle.st_block.specs.Block.{Cell}
 use Rattle.st_block.specs.InternalKey.{is_key_before}
-use Rattle.st_block.specs.Place.{cells_at, cells_in}
+use Rattle.st_block.specs.BlockContents.{cells_at, cells_in}
 use Rattle.st_block.proofs.Counting.{halves, halves_few}
 use Rattle.st_block.proofs.Searching.{some_restart, start_first, start_more, stays_behind}
 use Rattle.st_block.proofs.walk.start_of.Goals as goal
@@ -60,7 +60,7 @@ returns-clause-last g c =
     let next : c.loop-low.high ≡ suc c.loop-low.low = omega (arith, i.within, c.loop-low-test.false) in
     record {
       low = c.loop-low.low;
-      place = c.offset_at.ensures;
+      offset = c.offset_at.ensures;
       within = omega (arith, i.within, i.top);
       after = elim i.after [
         | inl end ↦ inl (sym next ∙ end)

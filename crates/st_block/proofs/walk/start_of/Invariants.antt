@@ -2,7 +2,7 @@ use Rattle.std.proofs.Common.{◌≡◌, ◌+◌, ◌-◌, ◌*◌, ◌^◌, ◌
 use Rattle.std.specs.Int.{w32, from_le_bytes}
 use Rattle.st_block.specs.Block.{Cell}
 use Rattle.st_block.specs.InternalKey.{is_key_before}
-use Rattle.st_block.specs.Place.{cells_at, cells_in}
+use Rattle.st_block.specs.BlockContents.{cells_at, cells_in}
 use Rattle.st_block.specs.Search.{IsStart}
 use Rattle.st_block.proofs.walk.start_of.Given as goal
 

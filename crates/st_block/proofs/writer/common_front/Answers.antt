@@ -5,8 +5,8 @@ use Rattle.std.proofs.lemmas.List.{drop_all}
 use Rattle.st_block.proofs.Writers.{front_end}
 use Rattle.st_block.proofs.writer.common_front.Goals as goal
 
-pub returns-else-place-other : goal.returns-else-place-other
-returns-else-place-other c =
-    let p = c.loop-place.place in
+pub returns-else-index-other : goal.returns-else-index-other
+returns-else-index-other c =
+    let p = c.loop-index.index in
     let none : common_prefix_len nat_eq (drop p c.args.one.now) (drop p c.args.other.now) ≡ 0 = ap (λ (l : List ℕ). common_prefix_len nat_eq (drop p c.args.one.now) l) (drop_all p c.args.other.now (omega arith)) ∙ front_end (drop p c.args.one.now) in
-    sym (c.loop-place.invariant.alike ∙ ap (λ (k : ℕ). p + k) none ∙ (let e : p + 0 ≡ p = omega arith in e))
+    sym (c.loop-index.invariant.alike ∙ ap (λ (k : ℕ). p + k) none ∙ (let e : p + 0 ≡ p = omega arith in e))

@@ -3,12 +3,12 @@ use Rattle.std.specs.Prelude.{nat_eq}
 use Rattle.std.specs.List.{common_prefix_len}
 use Rattle.st_block.proofs.writer.common_front.Given as goal
 
-abbrev pub invariant-loop-place : goal.invariant-loop-place
-invariant-loop-place l = record {
-  one_in : l.place ≤ length l.one;
-  other_in : l.place ≤ length l.other;
-  alike : common_prefix_len nat_eq l.one l.other ≡ l.place + common_prefix_len nat_eq (drop l.place l.one) (drop l.place l.other);
+abbrev pub invariant-loop-index : goal.invariant-loop-index
+invariant-loop-index l = record {
+  one_in : l.index ≤ length l.one;
+  other_in : l.index ≤ length l.other;
+  alike : common_prefix_len nat_eq l.one l.other ≡ l.index + common_prefix_len nat_eq (drop l.index l.one) (drop l.index l.other);
 }
 
-abbrev pub decreases-loop-place : goal.decreases-loop-place
-decreases-loop-place l = length l.initial.one - l.place
+abbrev pub decreases-loop-index : goal.decreases-loop-index
+decreases-loop-index l = length l.initial.one - l.index

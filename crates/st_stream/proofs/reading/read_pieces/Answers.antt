@@ -21,5 +21,5 @@ loop-left-preserved g c =
           let file = bytes_of ((g.I.Inputs.tells c.args.inputs.now).file c.args.name.now) in
           let reads : ReadsAt file at c.loop-left.piece c.read.new.buffer c.in_ok-came.came = rw c.loop-left.invariant.stay.file at (c.in_ok-came.ensures.bytes still) in
           rw next (grown ∙ reads_more file c.loop-left.bytes c.loop-left.piece c.read.new.buffer at c.in_ok-came.came c.least-kept.result kept (c.loop-left.invariant.front known) reads);
-      stay = stay_trans _ _ _ c.loop-left.invariant.stay c.read.ensures.stay;
+      stay = stay_trans _ _ _ c.loop-left.invariant.stay c.read.ensures.untouched;
     }

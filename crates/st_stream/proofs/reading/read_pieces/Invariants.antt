@@ -1,5 +1,5 @@
 use Rattle.std.proofs.Common.{◌≡◌, ◌+◌, ◌-◌, length, take, IsTrue}
-use Rattle.st_stream.specs.Inputs.{Stay, bytes_of}
+use Rattle.st_stream.specs.Inputs.{InputsUntouched, bytes_of}
 use Rattle.st_stream.proofs.reading.read_pieces.Given as goal
 
 -- the file's first bytes are there, all but the `left`
@@ -9,7 +9,7 @@ invariant-loop-left g l =
     record {
       within : length l.bytes + l.left ≡ l.size;
       front : IsTrue (tells l.fn.inputs).known → l.bytes ≡ take (l.size - l.left) (bytes_of ((tells l.fn.inputs).file l.name));
-      stay : Stay (tells l.fn.inputs) (tells l.inputs);
+      stay : InputsUntouched (tells l.fn.inputs) (tells l.inputs);
     }
 
 abbrev pub decreases-loop-left : goal.decreases-loop-left

@@ -1,6 +1,6 @@
 use Rattle.std.proofs.Common.{◌+◌, ◌*◌, ◌≤◌, [], ◌∷◌, ◌++◌, length, sym, subst, arith}
 use Rattle.st_block.proofs.Writers.{finished_short}
-use Rattle.st_block.specs.Written.{Holds, Writing}
+use Rattle.st_block.specs.Written.{HoldsPairs, Writing}
 use Rattle.st_table.proofs.Sizes.{added_short}
 use Rattle.st_table.proofs.ending.add_name.Goals as goal
 
@@ -14,5 +14,5 @@ returns-clause-size c =
 
 pub returns-clause-holds : goal.returns-clause-holds
 returns-clause-holds c = λ pairs h.
-    subst (λ (v : Writing). Holds v (pairs ++ (c.args.name.now, c.args.value.now) ∷ [])) (sym c.in_ok-add.ensures.ok)
+    subst (λ (v : Writing). HoldsPairs v (pairs ++ (c.args.name.now, c.args.value.now) ∷ [])) (sym c.in_ok-add.ensures.ok)
     (c.writer_holds_what_is_added.ensures c.args.writer.now pairs c.args.name.now c.args.value.now h)

@@ -8,6 +8,6 @@ use Rattle.st_table.proofs.entries.push_entry.Goals as goal
 pub returns-in_ok-push-in-None-clause-rows : goal.returns-in_ok-push-in-None-clause-rows
 returns-in_ok-push-in-None-clause-rows c = λ rows.
     let front = c.args.entries.now in
-    let e = no_fault c.args.kind front c.len-place.result (option_map entry_of c.last-before.result) c.args.internal.now c.args.value.now
-    c.len-place.ensures c.last-before.ensures (sym c.in-None.ensures) in
+    let e = no_fault c.args.kind front c.len-index.result (option_map entry_of c.last-before.result) c.args.internal.now c.args.value.now
+    c.len-index.ensures c.last-before.ensures (sym c.in-None.ensures) in
     subst (λ (l : List Entry). AreRows l) (sym (c.in_ok-push-in-None.ensures ∙ ap (λ (x : Entry). front ++ x ∷ []) c.entry_under.ensures)) (rows_more c.args.kind front c.args.internal.now c.args.value.now e c.requires rows)

@@ -1,5 +1,5 @@
 use Rattle.std.proofs.Common.{◌≡◌, ◌≤◌, ◌<◌, ◌+◌, ◌^◌, ◌%◌, ◌++◌, ◌∷◌, [], ℕ, List, cond, eqb, length, sym, subst, ap, ◌∙◌}
-use Rattle.st_block.specs.Written.{Writing, added, entry_bytes, finished, shared_of}
+use Rattle.st_block.specs.Written.{Writing, pair_added, entry_bytes, finished_block, shared_of}
 use Rattle.st_block.proofs.Writers.{keeps_writing}
 use Rattle.st_block.proofs.writer.BlockWriter.add.Goals as goal
 
@@ -9,7 +9,7 @@ invariant_of-self-2 c =
     let key = c.args.key.now in
     let value = c.args.value.now in
     let w : Writing = record { interval = i.interval; count = i.count; entries = i.entries; restarts = i.restarts; last = i.last } in
-    let room : length (finished (added w key value)) < 2 ^ 32 = subst (λ (v : Writing). length (finished (added v key value)) < 2 ^ 32) (sym c.self.view_is) c.requires.room in
+    let room : length (finished_block (pair_added w key value)) < 2 ^ 32 = subst (λ (v : Writing). length (finished_block (pair_added v key value)) < 2 ^ 32) (sym c.self.view_is) c.requires.room in
     let kept = keeps_writing w key value c.self.invariant room in
     let shared : c.shared_with-shared.result ≡ shared_of i.interval i.count i.last key = c.shared_with-shared.ensures.value ∙ ap (λ (l : List ℕ). shared_of i.interval i.count l key) c.as_slice.ensures.value in
     let entries : c.push_entry.new.out ≡ i.entries ++ entry_bytes (shared_of i.interval i.count i.last key) key value = c.in_default.ensures.ok ∙ ap (λ (n : ℕ). i.entries ++ entry_bytes n key value) shared in

@@ -1,5 +1,5 @@
 use Rattle.std.proofs.Common.{ℕ, List, ◌++◌, ◌<◌, ◌^◌, length, sym, ap, subst, ◌∙◌, arith}
-use Rattle.st_block.specs.Written.{Writing, added as added_to_block, finished as finished_block}
+use Rattle.st_block.specs.Written.{Writing, pair_added as added_to_block, finished_block as finished_block}
 use Rattle.st_table.specs.Written.{IsWriter, Writer, stored}
 use Rattle.st_table.proofs.Sizes.{handle_short}
 use Rattle.st_table.proofs.Writing.{Fits, block_room, closed_is, closed_keeps, grows, handle_is, index_room, none_is, taken_back}

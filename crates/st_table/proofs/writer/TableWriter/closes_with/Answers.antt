@@ -1,7 +1,7 @@
 use Rattle.std.proofs.Common.{◌≡◌, ◌+◌, length, sym, subst, ◌∙◌, arith}
 use Rattle.std.specs.Prelude.{nat_le}
 use Rattle.std.proofs.lemmas.Bool.{lt-leb}
-use Rattle.st_block.specs.Written.{added as added_to_block}
+use Rattle.st_block.specs.Written.{pair_added as added_to_block}
 use Rattle.st_table.specs.Written.{Writer}
 use Rattle.st_table.proofs.Writing.{block_at_most}
 use Rattle.st_table.proofs.writer.TableWriter.closes_with.Goals as goal

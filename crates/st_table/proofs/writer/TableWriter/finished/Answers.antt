@@ -1,7 +1,7 @@
 use Rattle.std.proofs.Common.{◌≡◌, ◌≤◌, ◌<◌, ◌^◌, ℕ, List, length, sym, ap, subst, ◌∙◌, arith}
-use Rattle.st_block.specs.Written.{added as added_to_block, finished as finished_block}
+use Rattle.st_block.specs.Written.{pair_added as added_to_block, finished_block as finished_block}
 use Rattle.st_table.specs.Footer.{greatest_size}
-use Rattle.st_table.specs.Written.{Writer, finished, indexed_block}
+use Rattle.st_table.specs.Written.{Writer, finished_table, indexed_block}
 use Rattle.st_table.proofs.Sizes.{handle_short, limit_short, parts_short, whole_parts_short}
 use Rattle.st_table.proofs.Writing.{Parts, finished_some, handle_is, parts_of, parts_whole, some_entries}
 use Rattle.st_table.proofs.writer.TableWriter.finished.Goals as goal
@@ -43,7 +43,7 @@ returns-clause-value c =
     let parts : Parts w c.push_stored.new.out c.as_slice-4.result.now = parts_of w c.in_ok-blocks.blocks c.in_ok-contents.contents c.as_slice-3.result.now c.last_key.result.now c.as_slice-2.result.now c.in_ok-index-2.index c.push_stored.new.out c.as_slice-4.result.now
     blocks c.in_ok-contents.ensures.value c.as_slice-3.ensures c.in_ok-push_stored.ensures.ok c.last_key.ensures.value is c.in_ok-index-2.ensures c.as_slice-4.ensures in
     let whole = parts_whole w c.push_stored.new.out c.as_slice-4.result.now parts some in
-    c.in_ok-bytes.ensures ∙ whole ∙ ap finished c.self.view_is
+    c.in_ok-bytes.ensures ∙ whole ∙ ap finished_table c.self.view_is
 
 pub returns-clause-fits : goal.returns-clause-fits
 returns-clause-fits c =

@@ -2,7 +2,7 @@ use Rattle.std.proofs.Common.{◌≡◌, ℕ, true, ◌+◌, length, refl, sym, 
 use Rattle.std.specs.Prelude.{nat_le}
 use Rattle.std.proofs.lemmas.Bool.{le-leb}
 use Rattle.st_block.proofs.Writers.{finished_long}
-use Rattle.st_block.specs.Written.{added as added_to_block}
+use Rattle.st_block.specs.Written.{pair_added as added_to_block}
 use Rattle.st_table.specs.Footer.{greatest_size}
 use Rattle.st_table.specs.Written.{Writer, ending, finished_with}
 use Rattle.st_table.proofs.Sizes.{ending_short, handle_short}

@@ -1,6 +1,6 @@
 use Rattle.std.proofs.Common.{◌+◌, ◌<◌, length, sym, subst, ◌∙◌, arith}
 use Rattle.std.proofs.lemmas.Bool.{leb-false}
-use Rattle.st_block.specs.Written.{Writing, added as added_to_block}
+use Rattle.st_block.specs.Written.{Writing, pair_added as added_to_block}
 use Rattle.st_table.specs.Written.{IsWriter, Writer}
 use Rattle.st_table.proofs.Writing.{Fits, block_room, grows, open_keeps}
 use Rattle.st_table.proofs.writer.TableWriter.put.Goals as goal

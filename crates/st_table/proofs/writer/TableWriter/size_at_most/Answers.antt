@@ -1,5 +1,5 @@
 use Rattle.std.proofs.Common.{◌+◌, ◌*◌, ◌≤◌, length, subst, arith}
-use Rattle.st_block.specs.Written.{added as added_to_block}
+use Rattle.st_block.specs.Written.{pair_added as added_to_block}
 use Rattle.st_table.specs.Written.{Writer, finished_with}
 use Rattle.st_table.proofs.Writing.{at_most}
 use Rattle.st_table.proofs.writer.TableWriter.size_at_most.Goals as goal

@@ -1,0 +1,4 @@
+pub mod Newest
+pub mod Op
+pub mod MarkStore
+pub mod Engine

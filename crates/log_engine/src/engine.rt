@@ -1,0 +1,200 @@
+// The engine.
+ghost use Rattle.std.specs.Prelude.{◌≡◌, ◌⊎◌, ◌+◌, ◌≤◌, ◌<◌, ◌↔◌, ◌++◌, ◌∷◌, [], ℕ, List, IfErr, IfOk, IsErrOf, IsSome, OnErr, OnOk, None, Some, false, length, map, is_ok};
+ghost use Rattle.std.specs.List.{AllByRecursion as Each};
+ghost use Rattle.st_base.specs.Count.{Rose};
+ghost use Rattle.st_base.specs.Entries.{add_charge};
+ghost use Rattle.st_device.specs.Disk.{Image, IsHonest, Leaves, OnlyFile, Passes};
+ghost use Rattle.st_model.specs.declared.state.ModelState.{ModelState};
+ghost use Rattle.st_model.specs.Legal.{is_stop};
+ghost use Rattle.st_model.specs.Answer.{found, get_answer, unknown_families, write_refusals};
+ghost use Rattle.st_model.specs.Apply.{write_charge};
+ghost use Rattle.log_recover.specs.Opens.{IsDamageOf, opens};
+ghost use Rattle.st_wal.specs.Logged.{IsWithOrWithout, logged_record, read_as_log};
+ghost use Rattle.st_wal.specs.Wal.{IsReady, operations};
+ghost use Rattle.log_engine.specs.Newest.{HasRoom, newest_at};
+ghost use Rattle.log_engine.specs.Op.{marks_after_all};
+
+use crate::ChangeFault;
+use crate::store::{PreparedWrite, MarkStore};
+use st_base::{Family, Key, Value};
+use st_device::Disk;
+use st_model::{Batch, Refusal, Reply};
+use log_recover::{OpenFault, recover};
+use st_wal::{LogRecord, Operation, Wal};
+use std::alloc::Global;
+
+/// How a store is opened.
+#[derive(Clone, Copy, Drop, PartialEq, Eq)]
+pub struct Options {
+    /// Whether the store takes files in behind; such a store keeps tombstones in its contents.
+    pub behind: bool,
+    /// The greatest charge of the store, in bytes.
+    pub capacity: u64,
+}
+
+/// What an accepted write took: its place, and its first and last sequence number.
+#[derive(Clone, Copy, Drop, PartialEq, Eq)]
+pub struct AcceptedWrite {
+    pub place: u64,
+    pub first: u64,
+    pub last: u64,
+}
+
+/// A store on a disk. After a disk fault it is stopped: it makes no further device call, and reads go on.
+#[derive(Drop)]
+pub struct Engine<D: Disk> {
+    alloc: Global,
+    disk: D,
+    wal: Wal,
+    store: MarkStore,
+    stopped: Option<u64>,
+}
+
+impl<D: Disk> Engine<D> {
+    ghost use Rattle.log_engine.specs.Engine.{IsAccepted, IsOpened, IsTied, OpensTo, state_written};
+    ghost use Rattle.log_engine.specs.Op.{IsWrite};
+    ghost use Rattle.log_engine.specs.MarkStore.{IsAdvanced, IsFirst, StandsForState};
+
+    /// Opens the store of a disk, or makes it where it isn't there. Every refusal hands the disk back. `Damaged` comes
+    /// exactly where the disk reads a store that is damaged; a fault of the disk or want of memory may come in its place.
+    pub fn open(alloc: Global, mut disk: D, options: Options) -> Result<Engine<D>, (D, OpenFault)>
+        // The store stands for the state that an opening makes of the contents that the disk reads.
+        ensures opened { IfOk result (λ engine. IsOpened (D.tells disk) options.behind engine.store) }
+        ensures tied { IfOk result (λ engine. IsHonest (D.tells disk) → IsTied engine.wal engine.store (D.tells engine.disk)) }
+        ensures options { IfOk result (λ engine. (engine.store.behind ≡ options.behind) × (engine.store.capacity ≡ options.capacity)) }
+        ensures running { IfOk result (λ engine. engine.stopped ≡ None) }
+        ensures damage { IfErr result (λ back. IsHonest (D.tells disk) → IsDamageOf (opens (D.tells disk).reads) back.1) }
+
+        // Each image of a crash within the call is one that a crash at its beginning could leave, or opens to what the
+        // disk read then. After Ok each does the latter.
+        ensures crash { IfOk result (λ engine. IsHonest (D.tells disk) → Leaves (λ image. (D.tells disk).now image ⊎ (opens image ≡ opens (D.tells disk).reads)) (D.tells disk) (D.tells engine.disk)) }
+        ensures crash_err { IfErr result (λ back. IsHonest (D.tells disk) → Leaves (λ image. (D.tells disk).now image ⊎ (opens image ≡ opens (D.tells disk).reads)) (D.tells disk) (D.tells back.0)) }
+        ensures after { IfOk result (λ engine. IsHonest (D.tells disk) → (image : Image) → (D.tells engine.disk).now image → opens image ≡ opens (D.tells disk).reads) }
+
+        ensures passes { IfOk result (λ engine. Passes (D.tells disk) (D.tells engine.disk)) }
+        ensures passes_err { IfErr result (λ back. Passes (D.tells disk) (D.tells back.0)) }
+        ensures cause { IfErr result (λ back. back.1 ≡ OpenFault.DiskFault → Rose (D.tells disk).faults (D.tells back.0).faults) }
+    {
+        match recover(alloc, &mut disk) {
+            Err(fault) => Err((disk, fault)),
+            Ok((operations, wal)) => match MarkStore::open(alloc, operations, options) {
+                Err(_) => Err((disk, OpenFault::OutOfMemory)),
+                Ok(store) => Ok(Engine {
+                    alloc,
+                    disk,
+                    wal,
+                    store,
+                    stopped: None,
+                }),
+            },
+        }
+    }
+
+    /// How many changes were accepted since the opening.
+    pub fn place(&self) -> u64
+        ensures { result ≡ self.now.store.place }
+    {
+        self.store.place
+    }
+
+    /// The disk's count of faults at the fault that stopped the engine; None exactly where none did.
+    pub fn stopped(&self) -> Option<u64>
+        ensures { result ≡ self.now.stopped }
+    {
+        self.stopped
+    }
+
+    /// Hands the disk back.
+    pub fn close(self) -> D
+        ensures { result ≡ self.disk }
+    {
+        self.disk
+    }
+
+    /// What the key reads now. The refusals are that of a family that isn't there, and want of memory.
+    pub fn read_now(&self, family: &Family, key: &Key) -> Result<Option<Value>, ChangeFault>
+        ensures ok { IfOk result (λ value. (state : ModelState) → StandsForState self.now.store state → get_answer state state.last family.now key.now ≡ found value) }
+        ensures refused { IfErr result (λ refusal. (state : ModelState) → StandsForState self.now.store state → IsFirst (unknown_families state (family.now ∷ [])) refusal) }
+        ensures no_stop { IfErr result (λ refusal. is_stop (Reply.Refused refusal) ≡ false) }
+    {
+        self.store.read(family, key)
+    }
+
+    // Logs the operations of a write, whose keys have places, and takes them in.
+    fn append(
+        &mut self,
+        encoded: &LogRecord,
+        ops: Vec<Operation>,
+        charge: u64,
+    ) -> Result<AcceptedWrite, ChangeFault>
+        requires tied { IsHonest (D.tells self.old.disk) → IsTied self.old.wal self.old.store (D.tells self.old.disk) }
+        requires room { Each (λ operation. HasRoom self.old.store.newest operation.1) ops.items }
+        requires last { self.old.store.last + length ops.items ≤ 72057594037927935 }
+        requires place { self.old.store.place < 72057594037927935 }
+        ensures log { IsHonest (D.tells self.old.disk) → OnlyFile self.old.wal.log.file
+            (λ this. IsWithOrWithout (operations self.old.wal (D.tells self.old.disk)) (logged_record self.old.wal.log.at encoded.now) (read_as_log this))
+            (D.tells self.old.disk) (D.tells self.new.disk) }
+        ensures ready { IsHonest (D.tells self.old.disk) → OnOk result (IsReady self.new.wal (D.tells self.new.disk)
+            × (operations self.new.wal (D.tells self.new.disk) ≡ operations self.old.wal (D.tells self.old.disk) ++ logged_record self.old.wal.log.at encoded.now)) }
+        ensures file { self.new.wal.log.file ≡ self.old.wal.log.file }
+        ensures marks { OnOk result ((key : List ℕ) → newest_at self.new.store.newest key ≡ marks_after_all (newest_at self.old.store.newest) ops.items key) }
+        ensures numbers { OnOk result (IsAdvanced self.old.store self.new.store (length ops.items) charge) }
+        ensures wrote { IfOk result (λ wrote. wrote ≡ record { place = self.new.store.place; first = self.old.store.last + 1; last = self.new.store.last }) }
+        ensures running { OnOk result (self.new.stopped ≡ self.old.stopped) }
+        ensures unchanged { OnErr result (self.new.store ≡ self.old.store) }
+        ensures fault { IfErr result (λ refusal. refusal ≡ Refusal.DiskFault) }
+        ensures stopped { OnErr result (self.new.stopped ≡ Some (D.tells self.new.disk).faults) }
+        ensures passes { Passes (D.tells self.old.disk) (D.tells self.new.disk) }
+        ensures cause { OnErr result (Rose (D.tells self.old.disk).faults (D.tells self.new.disk).faults) }
+    {
+        match self.wal.append(&mut self.disk, encoded) {
+            Ok(()) => Ok(self.store.accept(ops, charge)),
+            Err(_) => {
+                self.stopped = Some(self.disk.faults());
+                Err(Refusal::DiskFault)
+            }
+        }
+    }
+
+    /// Makes a write, durably: all its operations or none. The batch is within the limits of a write.
+    ///
+    /// The refusals come in this order: that a fault stopped the engine before, a family that isn't there, numbers spent,
+    /// the store full, a disk fault. All memory is taken before the first device call.
+    pub fn write(&mut self, batch: &Batch) -> Result<AcceptedWrite, ChangeFault>
+        requires limits { IsWrite batch.now.ops }
+        requires tied { IsHonest (D.tells self.old.disk) → self.old.stopped ≡ None → IsTied self.old.wal self.old.store (D.tells self.old.disk) }
+
+        // An accepted write is the model's, and the engine then stands for the state after it.
+        ensures accepted { OnOk result ((state : ModelState) → StandsForState self.old.store state → StandsForState self.new.store (state_written state batch.now)) }
+        ensures numbers { IfOk result (λ wrote. (state : ModelState) → StandsForState self.old.store state → IsAccepted self.old.store.capacity state batch.now wrote) }
+        // A refused one is refused by the first refusal that holds, and changes no answer.
+        ensures refused { IfErr result (λ refusal. (state : ModelState) → StandsForState self.old.store state → IsFirst (write_refusals state self.old.store.capacity batch.now.ops) refusal) }
+        ensures unchanged { OnErr result ((state : ModelState) → StandsForState self.old.store state → StandsForState self.new.store state) }
+
+        // Each image of a crash within the call opens to the contents before the write or after it; after Ok to the latter.
+        ensures crash { IsHonest (D.tells self.old.disk) → self.old.stopped ≡ None → (state : ModelState) → StandsForState self.old.store state → Leaves (λ image. OpensTo state image ⊎ OpensTo (state_written state batch.now) image) (D.tells self.old.disk) (D.tells self.new.disk) }
+        ensures after { IsHonest (D.tells self.old.disk) → OnOk result ((state : ModelState) → StandsForState self.old.store state → (image : Image) → (D.tells self.new.disk).now image → OpensTo (state_written state batch.now) image) }
+        ensures tied { IsHonest (D.tells self.old.disk) → self.new.stopped ≡ None → IsTied self.new.wal self.new.store (D.tells self.new.disk) }
+
+        // A disk fault stops the engine, which makes no further device call.
+        ensures stopped { IsErrOf result Refusal.Stopped ↔ IsSome self.old.stopped }
+        ensures fault { IsErrOf result Refusal.DiskFault → self.new.stopped ≡ Some (D.tells self.new.disk).faults }
+        ensures stop_unchanged { (IsErrOf result Refusal.DiskFault → ⊥) → self.new.stopped ≡ self.old.stopped }
+        ensures untouched { IfErr result (λ refusal. (refusal ≡ Refusal.DiskFault → ⊥) → self.new.disk ≡ self.old.disk) }
+
+        ensures options { (self.new.store.behind ≡ self.old.store.behind) × (self.new.store.capacity ≡ self.old.store.capacity) }
+        ensures passes { Passes (D.tells self.old.disk) (D.tells self.new.disk) }
+        ensures cause { IsErrOf result Refusal.DiskFault → Rose (D.tells self.old.disk).faults (D.tells self.new.disk).faults }
+    {
+        if self.stopped.is_some() {
+            return Err(Refusal::Stopped);
+        }
+        let prepared = self.store.prepare(self.alloc, batch.ops.as_slice())?;
+        let PreparedWrite {
+            encoded,
+            ops,
+            charge,
+        } = prepared;
+        self.append(&encoded, ops, charge)
+    }
+}

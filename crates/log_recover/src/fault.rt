@@ -1,0 +1,64 @@
+// Why a store isn't opened.
+ghost use Rattle.std.specs.Prelude.{◌≡◌};
+
+use st_device::{Failed, FilesFault};
+use st_gate::ReplayFault;
+use std::alloc::AllocError;
+
+/// Why a store isn't opened.
+#[derive(Drop)]
+pub enum OpenFault {
+    /// The disk has a store that is damaged: a file, and the place of its first damage in bytes. In the log it is the
+    /// place of a record's gate, or 0 where the file isn't there or isn't a log.
+    Damaged { file: u64, at: u64 },
+    /// The disk has failed.
+    DiskFault,
+    OutOfMemory,
+}
+
+impl From<Failed> for OpenFault {
+    ghost use Rattle.log_recover.specs.declared.fault.OpenFault.TheVariants.{DiskFault};
+
+    ghost from_gives = { λ _ e. e ≡ DiskFault };
+
+    fn from(_: Failed) -> Self {
+        OpenFault::DiskFault
+    }
+}
+
+impl From<AllocError> for OpenFault {
+    ghost use Rattle.log_recover.specs.declared.fault.OpenFault.TheVariants.{OutOfMemory};
+
+    ghost from_gives = { λ _ e. e ≡ OutOfMemory };
+
+    fn from(_: AllocError) -> Self {
+        OpenFault::OutOfMemory
+    }
+}
+
+impl From<FilesFault> for OpenFault {
+    ghost use Rattle.log_recover.specs.Faults.{of_files};
+
+    ghost from_gives = { λ fault e. e ≡ of_files fault };
+
+    fn from(fault: FilesFault) -> Self {
+        match fault {
+            FilesFault::Failed => OpenFault::DiskFault,
+            FilesFault::OutOfMemory => OpenFault::OutOfMemory,
+        }
+    }
+}
+
+impl From<ReplayFault> for OpenFault {
+    ghost use Rattle.log_recover.specs.Faults.{of_replay};
+
+    ghost from_gives = { λ fault e. e ≡ of_replay fault };
+
+    fn from(fault: ReplayFault) -> Self {
+        match fault {
+            ReplayFault::Damaged { file, at } => OpenFault::Damaged { file, at },
+            ReplayFault::DiskFault => OpenFault::DiskFault,
+            ReplayFault::OutOfMemory => OpenFault::OutOfMemory,
+        }
+    }
+}

@@ -1,0 +1,76 @@
+// A store is opened.
+ghost use Rattle.std.specs.Prelude.{◌≡◌, ◌⊎◌, IfErr, IfOk, IsSome, Ok, OnOk};
+ghost use Rattle.st_base.specs.Count.{Rose};
+ghost use Rattle.st_device.specs.Disk.{Image, IsHonest, Leaves, Passes, Untouched};
+ghost use Rattle.st_wal.specs.Wal.{operations};
+ghost use Rattle.log_recover.specs.Opens.{IsDamageOf, first_log_fault, opens};
+ghost use Rattle.log_recover.specs.Store.{IsSettled, IsStore};
+
+use crate::fault::OpenFault;
+use crate::make::make_store;
+use crate::settle::settle;
+use crate::{LOG_FILE, MARK_FILE};
+use st_base::List;
+use st_device::Disk;
+use st_wal::{Logged, Wal};
+use std::alloc::Global;
+
+// The place of the record of the first operation that isn't one of `default`, or whose number isn't above the one before.
+fn first_fault(operations: &[Logged]) -> Option<u64>
+    ensures { result ≡ first_log_fault 0 operations.now }
+{
+    let mut last = 0;
+    for logged in operations {
+        if logged.family != 0 || logged.number <= last {
+            return Some(logged.at);
+        }
+        last = logged.number;
+    }
+    None
+}
+
+// The operations of the log of a store that is whole.
+fn read_log<D: Disk>(alloc: Global, disk: &mut D) -> Result<(List<Logged>, Wal), OpenFault>
+    requires settled { IsHonest (D.tells disk.old) → IsSettled (D.tells disk.old) }
+    requires marked { IsHonest (D.tells disk.old) → IsSome ((D.tells disk.old).reads MARK_FILE) }
+    ensures ok { IsHonest (D.tells disk.old) → IfOk result (λ read. opens (D.tells disk.old).reads ≡ Ok read.0) }
+    ensures store { IsHonest (D.tells disk.old) → IfOk result (λ read. IsStore read.1 (D.tells disk.new)) }
+    ensures operations { IsHonest (D.tells disk.old) → IfOk result (λ read. operations read.1 (D.tells disk.new) ≡ read.0) }
+    ensures damage { IsHonest (D.tells disk.old) → IfErr result (IsDamageOf (opens (D.tells disk.old).reads)) }
+    ensures untouched { Untouched (D.tells disk.old) (D.tells disk.new) }
+    ensures passes { Passes (D.tells disk.old) (D.tells disk.new) }
+    ensures cause { result ≡ Err OpenFault.DiskFault → Rose (D.tells disk.old).faults (D.tells disk.new).faults }
+{
+    let (operations, wal) = Wal::replay(alloc, disk, LOG_FILE)?;
+    match first_fault(operations.as_slice()) {
+        None => Ok((operations, wal)),
+        Some(at) => Err(OpenFault::Damaged { file: LOG_FILE, at }),
+    }
+}
+
+/// Opens the store of a disk, or makes a new one where its mark isn't there: its operations, in order, and its log.
+///
+/// Every file that is there is synced first. `Damaged` comes exactly where the disk reads a store that is damaged, with
+/// the place of its damage; a fault of the disk or want of memory may come in its place.
+pub fn recover<D: Disk>(alloc: Global, disk: &mut D) -> Result<(List<Logged>, Wal), OpenFault>
+    // What is opened is what the disk reads.
+    ensures ok { IsHonest (D.tells disk.old) → IfOk result (λ read. opens (D.tells disk.old).reads ≡ Ok read.0) }
+    ensures store { IsHonest (D.tells disk.old) → IfOk result (λ read. IsStore read.1 (D.tells disk.new)) }
+    ensures operations { IsHonest (D.tells disk.old) → IfOk result (λ read. operations read.1 (D.tells disk.new) ≡ read.0) }
+    ensures damage { IsHonest (D.tells disk.old) → IfErr result (IsDamageOf (opens (D.tells disk.old).reads)) }
+
+    // Each image of a crash within the call is one that a crash at its beginning could leave, or opens to what the disk
+    // read then. After Ok each does the latter.
+    ensures crash { IsHonest (D.tells disk.old) → Leaves (λ image. (D.tells disk.old).now image ⊎ (opens image ≡ opens (D.tells disk.old).reads)) (D.tells disk.old) (D.tells disk.new) }
+    ensures after { IsHonest (D.tells disk.old) → OnOk result ((image : Image) → (D.tells disk.new).now image → opens image ≡ opens (D.tells disk.old).reads) }
+
+    ensures passes { Passes (D.tells disk.old) (D.tells disk.new) }
+    ensures cause { result ≡ Err OpenFault.DiskFault → Rose (D.tells disk.old).faults (D.tells disk.new).faults }
+{
+    settle(alloc, disk)?;
+    if disk.length(MARK_FILE)?.is_some() {
+        return read_log(alloc, disk);
+    }
+    let wal = make_store(disk)?;
+    Ok((List::new(alloc), wal))
+}

@@ -1,4 +1,0 @@
-pub mod Newest
-pub mod Op
-pub mod Store
-pub mod Engine
