@@ -6,9 +6,9 @@ ghost use Rattle.log_engine.specs.Engine.{IsTied};
 ghost use Rattle.log_engine.specs.Op.{IsWrite};
 
 use crate::outside::disk;
+use log_engine::{AcceptedWrite, Engine, Options};
 use st_base::{Family, Key, List, Value};
 use st_device::MemDisk;
-use log_engine::{Engine, Options, AcceptedWrite};
 use st_model::{Batch, Op, Refusal};
 use std::alloc::Global;
 use std::test::Fail;
@@ -40,48 +40,70 @@ fn new_engine(alloc: Global, failing: u64, capacity: u64) -> Result<Engine<MemDi
     }
 }
 
-// The answer of a write: its place with its first and last number, where it is accepted.
-fn numbers(answer: &Result<AcceptedWrite, Refusal>) -> Option<(u64, u64, u64)> {
+// How a write was answered: its place with its first and last number, or the number of the refusal.
+#[derive(Clone, Copy, PartialEq, Eq)]
+enum Answer {
+    Accepted(u64, u64, u64),
+    Refused(Option<u32>),
+}
+
+fn answer_of(answer: Result<AcceptedWrite, Refusal>) -> Answer {
     match answer {
-        Ok(wrote) => Some((wrote.place, wrote.first, wrote.last)),
-        Err(_) => None,
+        Ok(write) => Answer::Accepted(write.place, write.first, write.last),
+        Err(refusal) => Answer::Refused(refusal.refusal_number()),
     }
 }
 
-// Two writes, and what the engine then is: how many changes were accepted, and the count of faults that stopped it.
-fn write_twice(
-    engine: &mut Engine<MemDisk>,
-    one: &Batch,
-    two: &Batch,
-) -> (Result<AcceptedWrite, Refusal>, Result<AcceptedWrite, Refusal>)
+// The answers of two writes.
+fn write_twice(engine: &mut Engine<MemDisk>, one: &Batch, two: &Batch) -> (Answer, Answer)
     requires one { IsWrite one.now.ops }
     requires two { IsWrite two.now.ops }
-    requires tied { IsHonest (told engine.old.disk) → IsTied engine.old.wal engine.old.store (told engine.old.disk) }
+    requires tied { IsHonest (told engine.old.disk)
+        → IsTied engine.old.wal engine.old.store (told engine.old.disk) }
 {
-    let first = engine.write(one);
-    let second = engine.write(two);
+    let first = answer_of(engine.write(one));
+    let second = answer_of(engine.write(two));
     (first, second)
+}
+
+// What an engine is after two writes: their answers, how many changes were accepted, and the count of faults that stopped it.
+#[derive(Clone, Copy, PartialEq, Eq)]
+struct AfterTwo {
+    first: Answer,
+    second: Answer,
+    place: u64,
+    stopped: Option<u64>,
+    calls: u64,
+}
+
+// Two writes to a new engine, whose disk then is closed.
+fn after_two(alloc: Global, failing: u64, capacity: u64) -> Result<AfterTwo, Fail> {
+    let one = one_put(alloc, b"a")?;
+    let two = one_put(alloc, b"b")?;
+    let mut engine = new_engine(alloc, failing, capacity)?;
+    let (first, second) = write_twice(&mut engine, &one, &two);
+    let (place, stopped) = (engine.place(), engine.stopped());
+    Ok(AfterTwo {
+        first,
+        second,
+        place,
+        stopped,
+        calls: engine.close().calls(),
+    })
 }
 
 // Each write has a charge of 34.
 #[test]
 fn the_capacity_refuses(rt: HostRuntime) -> Result<(), Fail> {
-    let alloc = rt.alloc();
-    let one = one_put(alloc, b"a")?;
-    let two = one_put(alloc, b"b")?;
-    for (capacity, wanted) in [(67, None), (68, Some((2, 2, 2))), (69, Some((2, 2, 2)))] {
-        let mut engine = new_engine(alloc, 0, capacity)?;
-        let (first, second) = write_twice(&mut engine, &one, &two);
-        assert!(rt; numbers(&first) == Some((1, 1, 1)), "{capacity}");
-        assert!(rt; numbers(&second) == wanted, "{capacity}");
-        assert!(rt;
-            wanted.is_some() || second == Err(Refusal::StoreFull),
-            "{capacity}"
-        );
-        assert!(rt;
-            engine.place() == if wanted.is_some() { 2 } else { 1 },
-            "{capacity}"
-        );
+    for (capacity, place, second) in [
+        (67, 1, Answer::Refused(Some(19))),
+        (68, 2, Answer::Accepted(2, 2, 2)),
+        (69, 2, Answer::Accepted(2, 2, 2)),
+    ] {
+        let after = after_two(rt.alloc(), 0, capacity)?;
+        assert!(rt; after.first == Answer::Accepted(1, 1, 1), "{capacity}");
+        assert!(rt; after.second == second, "{capacity}");
+        assert!(rt; after.place == place, "{capacity}");
     }
     Ok(())
 }
@@ -89,17 +111,30 @@ fn the_capacity_refuses(rt: HostRuntime) -> Result<(), Fail> {
 // The last sync within the first write fails; then no device is called.
 #[test]
 fn a_fault_stops_the_engine(rt: HostRuntime) -> Result<(), Fail> {
+    let after = after_two(rt.alloc(), 13, 100)?;
+    assert!(rt; after.first == Answer::Refused(Some(20)));
+    assert!(rt; after.second == Answer::Refused(Some(10)));
+    assert!(rt; after.stopped == Some(1));
+    assert!(rt; after.calls == 13);
+    Ok(())
+}
+
+// Whether the key reads none, where the engine's reads go on after the fault.
+fn reads_none(engine: &Engine<MemDisk>, family: &Family, key: &Key) -> bool {
+    matches!(engine.read_now(family, key), Ok(None))
+}
+
+// A stopped engine reads what it read before.
+#[test]
+fn a_stopped_engine_reads(rt: HostRuntime) -> Result<(), Fail> {
     let alloc = rt.alloc();
     let one = one_put(alloc, b"a")?;
-    let two = one_put(alloc, b"b")?;
     let family = Family::new(alloc, b"default")?;
     let key = Key::new(alloc, b"a")?;
     let mut engine = new_engine(alloc, 13, 100)?;
-    let (first, second) = write_twice(&mut engine, &one, &two);
-    assert!(rt; first == Err(Refusal::DiskFault));
-    assert!(rt; second == Err(Refusal::Stopped));
-    assert!(rt; engine.stopped() == Some(1));
-    assert!(rt; engine.read_now(&family, &key) == Ok(None));
-    assert!(rt; engine.close().calls() == 13);
+    let (first, _) = write_twice(&mut engine, &one, &one);
+    let none = reads_none(&engine, &family, &key);
+    assert!(rt; first == Answer::Refused(Some(20)));
+    assert!(rt; none);
     Ok(())
 }
