@@ -1,7 +1,5 @@
-pub mod Cutting
+pub mod FirstLine
 pub mod Behind
 pub mod Printing
-pub mod Spelling
-pub mod Joining
-pub mod Building
-pub mod BuildText
+pub mod FoundValue
+pub mod ReplyWords

@@ -8,7 +8,7 @@ use Rattle.st_model.specs.declared.refusal.Refusal.TheVariants.{UnknownFamily}
 use Rattle.st_model.specs.declared.reply.Reply.{Reply}
 use Rattle.st_model.specs.declared.reply.Reply.TheVariants.{Written, Found, Refused}
 use Rattle.st_model.specs.Line.{line_of, reply_words}
-use Rattle.st_model.specs.Word.{word}
+use Rattle.st_base.specs.Word.{word}
 use Rattle.cmd_text.specs.Replies.{spaced, refusal_text, reply_text}
 
 -- one word behind a front

@@ -2,4 +2,3 @@ pub mod Lines
 pub mod Commands
 pub mod Script
 pub mod Replies
-pub mod Build

@@ -1,6 +1,6 @@
--- The lines of a text, and the words of a line.
-use Rattle.std.specs.Prelude.{ℕ, ◌==◌, List, [], ◌∷◌, Option, Some, None}
-use Rattle.std.specs.List.{slice_split}
+-- The lines of a text.
+use Rattle.std.specs.Prelude.{ℕ, List, [], ◌∷◌}
+use Rattle.build_text.specs.Words.{text_parts}
 
 -- the parts without the last one, where that is empty
 abbrev pub without_empty_last : List (List ℕ) → List (List ℕ)
@@ -11,13 +11,4 @@ without_empty_last (part ∷ next ∷ parts) = part ∷ without_empty_last (next
 
 -- the lines of a text: they end with a line feed, which the last may lack
 abbrev pub lines : List ℕ → List (List ℕ)
-lines text = without_empty_last (slice_split (λ byte. byte == 10) text)
-
--- the words of a line, which are parted by one space
-abbrev pub words : List ℕ → List (List ℕ)
-words line = slice_split (λ byte. byte == 32) line
-
--- the words of what is left of a line, where something is left
-abbrev pub words_left : Option (List ℕ) → List (List ℕ)
-words_left None = []
-words_left (Some line) = words line
+lines text = without_empty_last (text_parts text)

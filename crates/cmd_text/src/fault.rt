@@ -1,14 +1,10 @@
 ghost use Rattle.std.specs.Prelude.{◌≡◌};
-ghost use Rattle.cmd_text.specs.Commands.{command_fault_of, limit_fault_of, word_fault_of};
-ghost use Rattle.cmd_text.specs.Build.{line_fault_of_word};
-ghost use Rattle.cmd_text.specs.Replies.{line_fault_of, reply_fault_of};
-ghost use Rattle.cmd_text.specs.declared.fault.CommandFault.TheVariants as command;
-ghost use Rattle.cmd_text.specs.declared.fault.ScriptFault.TheVariants as script;
+ghost use Rattle.cmd_text.specs.Commands.{limit_fault_of, fault_of_word};
 ghost use Rattle.cmd_text.specs.declared.fault.LineFault.TheVariants as line;
-ghost use Rattle.cmd_text.specs.declared.fault.BuildFault.TheVariants as build;
-ghost use Rattle.cmd_text.specs.declared.fault.BuildLineFault.TheVariants as build_line;
-ghost use Rattle.cmd_text.specs.declared.fault.WordFault.TheVariants as spelling;
+ghost use Rattle.cmd_text.specs.declared.fault.ParseFault.TheVariants as parse;
+ghost use Rattle.cmd_text.specs.declared.fault.ScriptFault.TheVariants as script;
 
+use build_text::WordFault;
 use st_base::MakeFault;
 use std::alloc::AllocError;
 
@@ -28,45 +24,11 @@ pub enum LineFault {
     OutOfMemory,
 }
 
-/// Why a text is no build text: its first fault. Lines are counted from 1.
-#[derive(Debug, Drop)]
-pub enum BuildFault {
-    /// The line is neither `put K V` nor `del K`, or no line feed ends it.
-    Line { line: u32 },
-    /// The line's key or value passes its limit.
-    TooLarge { line: u32 },
-    /// The line's key isn't greater than that of the line before it.
-    NotRising { line: u32 },
-    /// The text has no line.
-    NoEntry,
-    OutOfMemory,
-}
-
-/// Why a line of a build text stands for no entry.
-#[derive(Debug, Drop)]
-pub enum BuildLineFault {
-    /// It is neither `put K V` nor `del K`.
-    Line,
-    /// It is such a line, and its key or value passes its limit.
-    TooLarge,
-    OutOfMemory,
-}
-
-// Why a word isn't read as bytes.
+// Why words aren't read as a command or a reply, or as a part of one.
 #[derive(Drop)]
-pub(crate) enum WordFault {
-    // It is no spelling.
-    NotAWord,
-    // It stands for more bytes than the limit.
-    TooLong,
-    OutOfMemory,
-}
-
-// Why words aren't read as a command.
-#[derive(Drop)]
-pub(crate) enum CommandFault {
-    // They are no command, or not that part of one.
-    NotACommand,
+pub(crate) enum ParseFault {
+    // They are something else, or pass a limit.
+    Mismatch,
     OutOfMemory,
 }
 
@@ -86,95 +48,33 @@ impl From<AllocError> for LineFault {
     }
 }
 
-impl From<MakeFault> for LineFault {
-    ghost from_gives = { λ fault result. result ≡ line_fault_of fault };
+impl From<AllocError> for ParseFault {
+    ghost from_gives = { λ _ fault. fault ≡ parse.OutOfMemory };
 
-    fn from(fault: MakeFault) -> LineFault {
-        match fault {
-            MakeFault::Limit => LineFault::NotAReply,
-            MakeFault::OutOfMemory => LineFault::OutOfMemory,
-        }
+    fn from(_error: AllocError) -> ParseFault {
+        ParseFault::OutOfMemory
     }
 }
 
-impl From<AllocError> for CommandFault {
-    ghost from_gives = { λ _ fault. fault ≡ command.OutOfMemory };
-
-    fn from(_error: AllocError) -> CommandFault {
-        CommandFault::OutOfMemory
-    }
-}
-
-impl From<MakeFault> for CommandFault {
+impl From<MakeFault> for ParseFault {
     ghost from_gives = { λ fault result. result ≡ limit_fault_of fault };
 
-    fn from(fault: MakeFault) -> CommandFault {
+    fn from(fault: MakeFault) -> ParseFault {
         match fault {
-            MakeFault::Limit => CommandFault::NotACommand,
-            MakeFault::OutOfMemory => CommandFault::OutOfMemory,
+            MakeFault::Limit => ParseFault::Mismatch,
+            MakeFault::OutOfMemory => ParseFault::OutOfMemory,
         }
     }
 }
 
-impl From<WordFault> for CommandFault {
-    ghost from_gives = { λ fault result. result ≡ command_fault_of fault };
+impl From<WordFault> for ParseFault {
+    ghost from_gives = { λ fault result. result ≡ fault_of_word fault };
 
-    fn from(fault: WordFault) -> CommandFault {
+    fn from(fault: WordFault) -> ParseFault {
         match fault {
-            WordFault::NotAWord => CommandFault::NotACommand,
-            WordFault::TooLong => CommandFault::NotACommand,
-            WordFault::OutOfMemory => CommandFault::OutOfMemory,
-        }
-    }
-}
-
-impl From<AllocError> for WordFault {
-    ghost from_gives = { λ _ fault. fault ≡ spelling.OutOfMemory };
-
-    fn from(_error: AllocError) -> WordFault {
-        WordFault::OutOfMemory
-    }
-}
-
-impl From<MakeFault> for WordFault {
-    ghost from_gives = { λ fault result. result ≡ word_fault_of fault };
-
-    fn from(fault: MakeFault) -> WordFault {
-        match fault {
-            MakeFault::Limit => WordFault::TooLong,
-            MakeFault::OutOfMemory => WordFault::OutOfMemory,
-        }
-    }
-}
-
-impl From<AllocError> for BuildFault {
-    ghost from_gives = { λ _ fault. fault ≡ build.OutOfMemory };
-
-    fn from(_error: AllocError) -> BuildFault {
-        BuildFault::OutOfMemory
-    }
-}
-
-impl From<WordFault> for BuildLineFault {
-    ghost from_gives = { λ fault result. result ≡ line_fault_of_word fault };
-
-    fn from(fault: WordFault) -> BuildLineFault {
-        match fault {
-            WordFault::NotAWord => BuildLineFault::Line,
-            WordFault::TooLong => BuildLineFault::TooLarge,
-            WordFault::OutOfMemory => BuildLineFault::OutOfMemory,
-        }
-    }
-}
-
-impl From<WordFault> for LineFault {
-    ghost from_gives = { λ fault result. result ≡ reply_fault_of fault };
-
-    fn from(fault: WordFault) -> LineFault {
-        match fault {
-            WordFault::NotAWord => LineFault::NotAReply,
-            WordFault::TooLong => LineFault::NotAReply,
-            WordFault::OutOfMemory => LineFault::OutOfMemory,
+            WordFault::NotAWord => ParseFault::Mismatch,
+            WordFault::TooLong => ParseFault::Mismatch,
+            WordFault::OutOfMemory => ParseFault::OutOfMemory,
         }
     }
 }

@@ -1,11 +1,15 @@
-ghost use Rattle.std.specs.Prelude.{◌≡◌, ◌==◌, ◌<◌, ◌∷◌, length, position};
+ghost use Rattle.std.specs.Prelude.{◌≡◌, ◌↔◌, ◌<◌, ◌∷◌, IsTrue, length};
+ghost use Rattle.st_base.specs.Bytes.{same};
 ghost use Rattle.cmd_text.specs.Lines.{lines};
 
-// The place of the first such byte.
-pub(crate) fn find_byte(bytes: &[u8], wanted: u8) -> Option<usize>
-    ensures { result ≡ position (λ byte. byte == wanted) bytes.now }
+use build_text::split_once;
+
+// Whether the bytes are this word.
+pub(crate) fn is(bytes: &[u8], word: &[u8]) -> bool
+    ensures value { result ≡ same bytes.now word.now }
+    ensures same { IsTrue result ↔ (bytes.now ≡ word.now) }
 {
-    bytes.iter().position(|byte| *byte == wanted)
+    bytes == word
 }
 
 // The first line, without its line feed, and what stands behind that.
@@ -14,8 +18,8 @@ pub(crate) fn cut_line(text: &[u8]) -> (&[u8], &[u8])
     ensures lines { lines text.now ≡ result.0.now ∷ lines result.1.now }
     ensures shorter { length result.1.now < length text.now }
 {
-    match find_byte(text, b'\n') {
+    match split_once(text, b'\n') {
         None => (text, &text[text.len()..]),
-        Some(end) => (&text[..end], &text[end + 1..]),
+        Some(cut) => cut,
     }
 }

@@ -1,25 +1,13 @@
-ghost use Rattle.std.specs.Prelude.{◌≡◌, ◌<◌, ◌++◌, IfOk, OnOk, OnErr};
+ghost use Rattle.std.specs.Prelude.{◌≡◌, ◌++◌, IfOk, OnOk, OnErr};
 ghost use Rattle.std.specs.Fmt.{decimal};
-ghost use Rattle.st_model.specs.Word.{hex_digit, byte_word, word};
 ghost use Rattle.st_model.specs.Line.{line_of};
-ghost use Rattle.cmd_text.specs.Replies.{Extends, refusal_text, reply_text};
+ghost use Rattle.build_text.specs.Words.{Extends};
+ghost use Rattle.cmd_text.specs.Replies.{refusal_text, reply_text};
 
-use crate::bytes::{are_plain, is_plain};
+use build_text::push_word;
 use st_base::Bytes;
 use st_model::{Refusal, Reply};
 use std::alloc::{AllocError, Global};
-
-// The digit's byte: 0 to 9, then a to f.
-fn hex_digit(digit: u8) -> u8
-    requires { digit < 16 }
-    ensures { result ≡ hex_digit digit }
-{
-    if digit < 10 {
-        b'0' + digit
-    } else {
-        b'a' + (digit - 10)
-    }
-}
 
 // Puts the number's decimal digits at the end.
 #[tactic(auto, using(std::proofs::lemmas::Fmt::decimal_digit, std::proofs::lemmas::Fmt::decimal_step))]
@@ -32,36 +20,6 @@ fn push_number(out: &mut Bytes, number: u64) -> Result<(), AllocError>
     }
     push_number(out, number / 10)?;
     out.push(b'0' + (number % 10) as u8)
-}
-
-// Puts the byte's spelling at the end.
-fn push_byte(out: &mut Bytes, byte: u8) -> Result<(), AllocError>
-    ensures ok { OnOk result (out.new ≡ out.old ++ byte_word byte) }
-    ensures err { OnErr result (Extends out.old out.new) }
-{
-    if is_plain(byte) {
-        return out.push(byte);
-    }
-    let spelling = [b'\\', b'x', hex_digit(byte / 16), hex_digit(byte % 16)];
-    out.extend_from_slice(spelling.as_slice())
-}
-
-// Puts the spelling of the bytes at the end: plain ones as they stand, others byte by byte.
-#[tactic(auto, using(crate::proofs::Spelling::plain_printed))]
-pub(crate) fn push_word(out: &mut Bytes, bytes: &[u8]) -> Result<(), AllocError>
-    ensures ok { OnOk result (out.new ≡ out.old ++ word bytes.now) }
-    ensures err { OnErr result (Extends out.old out.new) }
-{
-    if bytes.is_empty() {
-        return out.extend_from_slice(b"\\e");
-    }
-    if are_plain(bytes) {
-        return out.extend_from_slice(bytes);
-    }
-    for byte in bytes {
-        push_byte(out, *byte)?;
-    }
-    Ok(())
 }
 
 // Puts the refusal's words at the end, each behind a space.

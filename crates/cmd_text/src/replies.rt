@@ -1,17 +1,18 @@
 ghost use Rattle.std.specs.Prelude.{◌≡◌, ◌<◌, ◌≤◌, ◌^◌, ◌∷◌, [], ◌++◌, ℕ, List, length, IfOk, IfSome, IsSomeAnd, IsErrOf, Some};
 ghost use Rattle.std.specs.Fmt.{decimal};
 ghost use Rattle.std.specs.Option.{option_copied};
-ghost use Rattle.st_model.specs.Word.{word as spelling_of};
+ghost use Rattle.st_base.specs.Word.{word as spelling_of};
 ghost use Rattle.st_model.specs.Line.{line_of, reply_words, refusal_words};
 ghost use Rattle.st_model.specs.declared.refusal.Refusal.{Refusal};
 ghost use Rattle.st_model.specs.declared.reply.Reply.{Reply};
-ghost use Rattle.cmd_text.specs.Replies.{AreBytes, GivesBack, IsPrinted, IsPrintedRefusal};
+ghost use Rattle.build_text.specs.Words.{AreBytes};
+ghost use Rattle.cmd_text.specs.Replies.{GivesBack, IsPrinted, IsPrintedRefusal};
 
-use crate::bytes::{is, read_value};
-use crate::fault::LineFault;
+use crate::fault::{LineFault, ParseFault};
+use crate::lines::is;
 use crate::print::print_reply;
-use crate::words::Words;
-use st_base::{Family, Value};
+use build_text::{Words, read_word};
+use st_base::{Bytes, Family, VALUE_BYTES, Value};
 use st_model::{Refusal, Reply};
 use std::alloc::Global;
 use std::str;
@@ -27,44 +28,45 @@ fn read_number(word: &[u8]) -> Option<u64>
 }
 
 // The number that is the only word.
-fn read_written(mut words: Words<'_>) -> Result<Reply, LineFault>
+fn read_written(mut words: Words<'_>) -> Result<Reply, ParseFault>
     ensures { (number : ℕ) → number < 2 ^ 64 → words.entry ≡ decimal number ∷ [] → GivesBack result (Reply.Written number) }
 {
-    let word = words.next().ok_or(LineFault::NotAReply)?;
-    let number = read_number(word).ok_or(LineFault::NotAReply)?;
+    let word = words.next().ok_or(ParseFault::Mismatch)?;
+    let number = read_number(word).ok_or(ParseFault::Mismatch)?;
     Ok(Reply::Written(number))
 }
 
 // The value that the word stands for.
-fn found_value(alloc: Global, word: &[u8]) -> Result<Value, LineFault>
+fn found_value(alloc: Global, word: &[u8]) -> Result<Value, ParseFault>
     ensures { (value : List ℕ) → AreBytes value → length value ≤ 1048576 → word.now ≡ spelling_of value → GivesBack result value }
 {
-    match read_value(alloc, word) {
-        Ok(value) => Ok(value),
-        Err(fault) => Err(LineFault::from(fault)),
+    let mut scratch = Bytes::new(alloc);
+    match read_word(word, VALUE_BYTES, &mut scratch) {
+        Ok(bytes) => Ok(Value::new(alloc, bytes)?),
+        Err(fault) => Err(ParseFault::from(fault)),
     }
 }
 
 // The value of which the only word is the spelling.
-fn read_found(alloc: Global, mut words: Words<'_>) -> Result<Reply, LineFault>
+fn read_found(alloc: Global, mut words: Words<'_>) -> Result<Reply, ParseFault>
     ensures { (value : List ℕ) → AreBytes value → length value ≤ 1048576 → words.entry ≡ spelling_of value ∷ []
         → GivesBack result (Reply.Found value) }
 {
-    let word = words.next().ok_or(LineFault::NotAReply)?;
+    let word = words.next().ok_or(ParseFault::Mismatch)?;
     Ok(Reply::Found(found_value(alloc, word)?))
 }
 
 // The refusal of which these are the words.
-fn read_refusal(alloc: Global, mut words: Words<'_>) -> Result<Refusal, LineFault>
+fn read_refusal(alloc: Global, mut words: Words<'_>) -> Result<Refusal, ParseFault>
     ensures { (refusal : Refusal) → IsPrintedRefusal refusal → words.entry ≡ refusal_words refusal → GivesBack result refusal }
 {
-    let number = words.next().ok_or(LineFault::NotAReply)?;
-    let _name = words.next().ok_or(LineFault::NotAReply)?;
+    let number = words.next().ok_or(ParseFault::Mismatch)?;
+    let _name = words.next().ok_or(ParseFault::Mismatch)?;
     if is(number, b"10") {
         return Ok(Refusal::Stopped);
     }
     if is(number, b"11") {
-        let name = words.next().ok_or(LineFault::NotAReply)?;
+        let name = words.next().ok_or(ParseFault::Mismatch)?;
         return Ok(Refusal::UnknownFamily(Family::new(alloc, name)?));
     }
     if is(number, b"18") {
@@ -76,14 +78,14 @@ fn read_refusal(alloc: Global, mut words: Words<'_>) -> Result<Refusal, LineFaul
     if is(number, b"20") {
         return Ok(Refusal::DiskFault);
     }
-    Err(LineFault::NotAReply)
+    Err(ParseFault::Mismatch)
 }
 
 // The reply of which these are the words.
-fn read_reply_words(alloc: Global, mut words: Words<'_>) -> Result<Reply, LineFault>
+fn read_reply_words(alloc: Global, mut words: Words<'_>) -> Result<Reply, ParseFault>
     ensures { (reply : Reply) → IsPrinted reply → words.entry ≡ reply_words reply → GivesBack result reply }
 {
-    let kind = words.next().ok_or(LineFault::NotAReply)?;
+    let kind = words.next().ok_or(ParseFault::Mismatch)?;
     if is(kind, b"written") {
         return read_written(words);
     }
@@ -96,7 +98,7 @@ fn read_reply_words(alloc: Global, mut words: Words<'_>) -> Result<Reply, LineFa
     if is(kind, b"refused") {
         return Ok(Reply::Refused(read_refusal(alloc, words)?));
     }
-    Err(LineFault::NotAReply)
+    Err(ParseFault::Mismatch)
 }
 
 // The line without its last byte.
@@ -110,23 +112,41 @@ fn without_last(line: &[u8]) -> Option<&[u8]>
 }
 
 // The place and the reply of which these are the words.
-fn read_line_words(alloc: Global, mut words: Words<'_>) -> Result<(u64, Reply), LineFault>
+fn read_line_words(alloc: Global, mut words: Words<'_>) -> Result<(u64, Reply), ParseFault>
     ensures { (place : ℕ) (reply : Reply) → place < 2 ^ 64 → IsPrinted reply
         → words.entry ≡ decimal place ∷ reply_words reply → GivesBack result (place, reply) }
 {
-    let word = words.next().ok_or(LineFault::NotAReply)?;
-    let place = read_number(word).ok_or(LineFault::NotAReply)?;
+    let word = words.next().ok_or(ParseFault::Mismatch)?;
+    let place = read_number(word).ok_or(ParseFault::Mismatch)?;
     let reply = read_reply_words(alloc, words)?;
     Ok((place, reply))
 }
 
 // The place and the reply that print as the line, if any do.
-fn read_candidate(alloc: Global, line: &[u8]) -> Result<(u64, Reply), LineFault>
+fn read_candidate(alloc: Global, line: &[u8]) -> Result<(u64, Reply), ParseFault>
     ensures { (place : ℕ) (reply : Reply) → place < 2 ^ 64 → IsPrinted reply → line.now ≡ line_of place reply
         → GivesBack result (place, reply) }
 {
-    let text = without_last(line).ok_or(LineFault::NotAReply)?;
+    let text = without_last(line).ok_or(ParseFault::Mismatch)?;
     read_line_words(alloc, Words::new(text))
+}
+
+// The place and the reply, where they print as the line.
+fn printed_as(
+    alloc: Global,
+    line: &[u8],
+    place: u64,
+    reply: Reply,
+) -> Result<(u64, Reply), LineFault>
+    ensures printed { IfOk result (λ found. (found ≡ (place, reply)) × (line.now ≡ line_of place reply)) }
+    ensures not_a_reply { IsErrOf result LineFault.NotAReply → line.now ≡ line_of place reply → ⊥ }
+{
+    let printed = print_reply(alloc, place, &reply)?;
+    if is(printed.as_slice(), line) {
+        Ok((place, reply))
+    } else {
+        Err(LineFault::NotAReply)
+    }
 }
 
 /// Reads a line of a transcript, line feed included: a place and its reply. `NotAReply` comes exactly where no place
@@ -138,11 +158,9 @@ pub fn read_reply(alloc: Global, line: &[u8]) -> Result<(u64, Reply), LineFault>
     ensures not_a_reply { IsErrOf result LineFault.NotAReply → (place : ℕ) (reply : Reply) → place < 2 ^ 64
         → IsPrinted reply → line.now ≡ line_of place reply → ⊥ }
 {
-    let (place, reply) = read_candidate(alloc, line)?;
-    let printed = print_reply(alloc, place, &reply)?;
-    if is(printed.as_slice(), line) {
-        Ok((place, reply))
-    } else {
-        Err(LineFault::NotAReply)
+    match read_candidate(alloc, line) {
+        Ok((place, reply)) => printed_as(alloc, line, place, reply),
+        Err(ParseFault::Mismatch) => Err(LineFault::NotAReply),
+        Err(ParseFault::OutOfMemory) => Err(LineFault::OutOfMemory),
     }
 }

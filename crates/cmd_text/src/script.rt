@@ -2,7 +2,7 @@ ghost use Rattle.std.specs.Prelude.{◌≡◌, ◌<◌, ◌≤◌, ℕ, length, 
 ghost use Rattle.cmd_text.specs.Script.{is_command_line, with_line, script_of};
 
 use crate::command::read_command;
-use crate::fault::{CommandFault, ScriptFault};
+use crate::fault::{ParseFault, ScriptFault};
 use crate::lines::cut_line;
 use st_base::{COMMANDS_PER_CLIENT, List};
 use st_model::Command;
@@ -50,8 +50,8 @@ fn read_line(
     }
     match read_command(alloc, text) {
         Ok(command) => Ok(commands.push(Numbered { line, command })?),
-        Err(CommandFault::NotACommand) => Err(ScriptFault::Line(line)),
-        Err(CommandFault::OutOfMemory) => Err(ScriptFault::OutOfMemory),
+        Err(ParseFault::Mismatch) => Err(ScriptFault::Line(line)),
+        Err(ParseFault::OutOfMemory) => Err(ScriptFault::OutOfMemory),
     }
 }
 

@@ -11,9 +11,10 @@ use Rattle.st_table.specs.IsTable.{IsTable}
 use Rattle.st_table.specs.Table.{first_fault}
 use Rattle.st_table.specs.Written.{MayBeTable, MayPut, written_table}
 use Rattle.st_table.specs.declared.kind.TableKind.TheVariants.{External}
-use Rattle.cmd_text.specs.declared.fault.BuildFault.{BuildFault}
-use Rattle.cmd_text.specs.declared.fault.BuildFault.TheVariants.{TooLarge, NotRising}
-use Rattle.cmd_text.specs.Build.{IsBuildEntry, and_then, at_end, build_of, build_text, entries_from, entry_of_line, is_above, is_within, some_entries, text_parts, with_build_line, with_found}
+use Rattle.build_text.specs.declared.fault.BuildFault.{BuildFault}
+use Rattle.build_text.specs.declared.fault.BuildFault.TheVariants.{TooLarge, NotRising}
+use Rattle.build_text.specs.Words.{text_parts}
+use Rattle.build_text.specs.Build.{IsBuildEntry, and_then, at_end, build_of, build_text, entries_from, entry_of_line, is_above, is_within, some_entries, with_build_line, with_found}
 use Rattle.ingest_app.specs.Convert.{EndsBytes, IsBuilt, IsShown, fit_table}
 use Rattle.ingest_app.specs.declared.conversions.Conversion.TheVariants.{Show}
 use Rattle.ingest_app.specs.declared.status.Status.{Status}

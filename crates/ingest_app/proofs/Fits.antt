@@ -9,8 +9,8 @@ use Rattle.st_model.specs.declared.change.Op.TheVariants.{Put, Del}
 use Rattle.st_model.specs.declared.command.Command.{Command}
 use Rattle.st_model.specs.declared.command.Command.TheVariants.{Get}
 use Rattle.cmd_text.specs.declared.script.Numbered.{Numbered}
-use Rattle.cmd_text.specs.Commands.{bytes_of_word, within, family_of_word, key_of_word, value_of_word, two_words, three_words, put_of, del_of, get_of, single, command_named, command_of_words, command_of}
-use Rattle.cmd_text.specs.Lines.{words}
+use Rattle.build_text.specs.Words.{bytes_of_word, three_words, two_words, words}
+use Rattle.cmd_text.specs.Commands.{within, family_and_key, family_of_word, key_of_word, value_of_word, put_of, del_of, get_of, single, command_named, command_of_words, command_of}
 use Rattle.cmd_text.specs.Script.{command_behind, commands_of, command_lines, in_front, script_of}
 use Rattle.log_engine.specs.Op.{IsWrite}
 use Rattle.ingest_app.specs.Op.{FitsLimits}
@@ -52,19 +52,19 @@ put_fits arguments op is =
 del_fits : (arguments : List (List ℕ)) (op : Op) → del_of arguments ≡ Some op → IsWrite (op ∷ [])
 unfolding del_of
 del_fits arguments op is =
-    let two = step (two_words arguments) _ op is in
-    let family = step (family_of_word two.0.0) _ op two.2 in
-    let key = step (key_of_word two.0.1) _ op family.2 in
-    let same_op : Del family.0 key.0 ≡ op = cc key.2 in
-    subst (λ o. IsWrite (o ∷ [])) same_op (del_write family.0 key.0 (key_limit two.0.1 key.0 key.1))
+    let named = step (family_and_key arguments) _ op is in
+    let two = step (two_words arguments) _ named.0 named.1 in
+    let family = step (family_of_word two.0.0) _ named.0 two.2 in
+    let key = step (key_of_word two.0.1) _ named.0 family.2 in
+    let same_key : key.0 ≡ named.0.1 = cc key.2 in
+    let same_op : Del named.0.0 named.0.1 ≡ op = cc named.2 in
+    subst (λ o. IsWrite (o ∷ [])) same_op (del_write named.0.0 named.0.1 (subst (λ k. length k ≤ 65535) same_key (key_limit two.0.1 key.0 key.1)))
 
 get_fits : (arguments : List (List ℕ)) (command : Command) → get_of arguments ≡ Some command → FitsLimits command
 unfolding get_of
 get_fits arguments command is =
-    let two = step (two_words arguments) _ command is in
-    let family = step (family_of_word two.0.0) _ command two.2 in
-    let key = step (key_of_word two.0.1) _ command family.2 in
-    let same_command : Get family.0 key.0 ≡ command = cc key.2 in
+    let named = step (family_and_key arguments) _ command is in
+    let same_command : Get named.0.0 named.0.1 ≡ command = cc named.2 in
     subst FitsLimits same_command tt
 
 single_fits : (found : Option Op) (command : Command) → ((op : Op) → found ≡ Some op → IsWrite (op ∷ [])) → option_and_then (λ op. Some (single op)) found ≡ Some command → FitsLimits command

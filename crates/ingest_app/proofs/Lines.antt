@@ -14,11 +14,12 @@ use Rattle.sst_writer.specs.declared.fault.FinishFault.{FinishFault}
 use Rattle.sst_writer.specs.declared.fault.FinishFault.TheVariants as finish
 use Rattle.sst_writer.specs.declared.fault.WriterFault.{WriterFault}
 use Rattle.sst_writer.specs.declared.fault.WriterFault.TheVariants as writer
-use Rattle.cmd_text.specs.declared.fault.BuildFault.{BuildFault}
-use Rattle.cmd_text.specs.declared.fault.BuildFault.TheVariants as build
-use Rattle.cmd_text.specs.Build.{GivesMore, build_of, entries_from, is_above, is_within, some_entries, text_parts, unnumbered, with_build_line, with_line_entry}
-use Rattle.cmd_text.proofs.Building.{build_end, build_line_fault, build_cut, entry_added, entry_not_fitting, entry_not_rising}
-use Rattle.ingest_app.specs.Convert.{EndsBytes, GivesTable, GivesWriter, build_cause, fault_at, fit_table, refused_text, source_limit, unfinished}
+use Rattle.build_text.specs.declared.fault.BuildFault.{BuildFault}
+use Rattle.build_text.specs.declared.fault.BuildFault.TheVariants as build
+use Rattle.build_text.specs.Words.{text_parts}
+use Rattle.build_text.specs.Build.{GivesEntries, GivesMore, build_of, entries_from, is_above, is_within, some_entries, unnumbered, with_line_entry}
+use Rattle.build_text.proofs.Building.{build_begin, entry_added, entry_not_fitting, entry_not_rising, some_stay}
+use Rattle.ingest_app.specs.Convert.{EndsBytes, GivesTable, build_cause, fault_at, fit_table, refused_text, source_limit, unfinished}
 use Rattle.ingest_app.specs.declared.conversions.Conversion.TheVariants.{Build}
 use Rattle.ingest_app.specs.declared.status.Status.{Status}
 use Rattle.ingest_app.specs.declared.status.Status.TheVariants.{Refused}
@@ -53,45 +54,29 @@ module _ (old : List Entry) (number : ℕ) (key : List ℕ) (mark : Mark) (withi
       (lt-leb (length (written_table External (old ++ unnumbered key mark ∷ []))) (greatest_size External) (large refl))
   not_taken new writer.OutOfMemory rises large = tt
 
--- ---- the lines
-
--- a line isn't read
-pub lines_stop : (X : Type 0) (entries more : List Entry) (number : ℕ) (fault : BuildFault) (rest line after text : List ℕ) → GivesMore {X = X} (Err fault) more (with_build_line fit_table entries number line) → text_parts rest ≡ line ∷ text_parts after
-    → some_entries (entries_from fit_table entries number (text_parts rest)) ≡ build_of fit_table text → GivesWriter (Err fault) (build_of fit_table text)
-lines_stop X entries more number (build.Line n) rest line after text gives parts e = sym e ∙ ap some_entries (build_line_fault fit_table entries number (build.Line n) rest line after gives parts)
-lines_stop X entries more number (build.TooLarge n) rest line after text gives parts e = sym e ∙ ap some_entries (build_line_fault fit_table entries number (build.TooLarge n) rest line after gives parts)
-lines_stop X entries more number (build.NotRising n) rest line after text gives parts e = sym e ∙ ap some_entries (build_line_fault fit_table entries number (build.NotRising n) rest line after gives parts)
-lines_stop X entries more number build.NoEntry rest line after text gives parts e = sym e ∙ ap some_entries (build_line_fault fit_table entries number build.NoEntry rest line after gives parts)
-lines_stop X entries more number build.OutOfMemory rest line after text gives parts e = tt
-
--- no line feed ends the text
-pub lines_cut : (entries : List Entry) (number : ℕ) (rest text : List ℕ) → 0 < length rest → text_parts rest ≡ rest ∷ [] → some_entries (entries_from fit_table entries number (text_parts rest)) ≡ build_of fit_table text → build_of fit_table text ≡ Err (build.Line number)
-lines_cut entries number rest text some parts e = sym e ∙ ap some_entries (build_cut fit_table entries number rest some parts)
-
--- all lines are read
-pub lines_end : (entries : List Entry) (number : ℕ) (rest text : List ℕ) → length rest ≡ 0 → some_entries (entries_from fit_table entries number (text_parts rest)) ≡ build_of fit_table text → some_entries (Ok entries) ≡ build_of fit_table text
-lines_end entries number rest text none e = sym (ap some_entries (build_end fit_table entries number rest none)) ∙ e
-
 -- ---- the table
 
-some-stay : (entries : List Entry) → (entries ≡ [] → ⊥) → some_entries (Ok entries) ≡ Ok entries
-some-stay [] some = absurd (some refl)
-some-stay (entry ∷ entries) some = refl
-
 pub finished_gives : (entries : List Entry) (table : List ℕ) → (entries ≡ [] → ⊥) → table ≡ written_table External entries → GivesTable (Ok table) (some_entries (Ok entries))
-finished_gives entries table some written = (entries, some-stay entries some, written)
+finished_gives entries table some written = (entries, some_stay entries some, written)
 
 pub unfinished_gives : (entries : List Entry) (fault : FinishFault) → (fault ≡ finish.NoEntry) ↔ (entries ≡ []) → GivesTable (Err (unfinished fault)) (some_entries (Ok entries))
 unfinished_gives entries finish.NoEntry none = ap (λ (l : List Entry). some_entries (Ok l)) (none.0 refl)
 unfinished_gives entries finish.OutOfMemory none = tt
 
+-- a text that is read
+pub read_gives : (entries : List Entry) (text : List ℕ) (table : Result (List ℕ) BuildFault) → entries_from fit_table [] 1 (text_parts text) ≡ Ok entries → GivesTable table (some_entries (Ok entries)) → GivesTable table (build_of fit_table text)
+read_gives entries text table read h = subst (GivesTable table) (sym (ap some_entries read) ∙ build_begin fit_table text) h
+
 -- a text that isn't read has no table
-pub unread_gives : (fault : BuildFault) (reading : Result (List Entry) BuildFault) → GivesWriter (Err fault) reading → GivesTable (Err fault) reading
-unread_gives (build.Line n) reading h = h
-unread_gives (build.TooLarge n) reading h = h
-unread_gives (build.NotRising n) reading h = h
-unread_gives build.NoEntry reading h = h
-unread_gives build.OutOfMemory reading h = tt
+unread-by : (fault : BuildFault) (reading : Result (List Entry) BuildFault) (text : List ℕ) → some_entries reading ≡ build_of fit_table text → GivesEntries (Err fault) reading → GivesTable (Err fault) (build_of fit_table text)
+unread-by (build.Line n) reading text is h = sym is ∙ ap some_entries h
+unread-by (build.TooLarge n) reading text is h = sym is ∙ ap some_entries h
+unread-by (build.NotRising n) reading text is h = sym is ∙ ap some_entries h
+unread-by build.NoEntry reading text is h = sym is ∙ ap some_entries h
+unread-by build.OutOfMemory reading text is h = tt
+
+pub unread_gives : (fault : BuildFault) (text : List ℕ) → GivesEntries (Err fault) (entries_from fit_table [] 1 (text_parts text)) → GivesTable (Err fault) (build_of fit_table text)
+unread_gives fault text h = unread-by fault (entries_from fit_table [] 1 (text_parts text)) text (build_begin fit_table text) h
 
 fault-gives : (fault : BuildFault) (reading : Result (List Entry) BuildFault) → (fault ≡ build.OutOfMemory → ⊥) → GivesTable (Err fault) reading → reading ≡ Err fault
 fault-gives (build.Line n) reading other h = h

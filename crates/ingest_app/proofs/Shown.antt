@@ -10,7 +10,7 @@ use Rattle.st_base.specs.declared.entry_ref.EntryRef.{EntryRef}
 use Rattle.st_table.specs.IsTable.{IsTable}
 use Rattle.st_table.specs.Table.{acting}
 use Rattle.st_table.specs.declared.kind.TableKind.TheVariants.{External}
-use Rattle.cmd_text.specs.Build.{build_line, build_text}
+use Rattle.build_text.specs.Build.{build_line, build_text}
 use Rattle.ingest_app.specs.Convert.{IsShown}
 
 -- the rows with one more

@@ -18,9 +18,9 @@ use Rattle.sst_writer.specs.declared.fault.FinishFault.{FinishFault}
 use Rattle.sst_writer.specs.declared.fault.FinishFault.TheVariants as finish
 use Rattle.sst_writer.specs.declared.fault.WriterFault.{WriterFault}
 use Rattle.sst_writer.specs.declared.fault.WriterFault.TheVariants as writer
-use Rattle.cmd_text.specs.Build.{build_of, build_text, some_entries}
-use Rattle.cmd_text.specs.declared.fault.BuildFault.{BuildFault}
-use Rattle.cmd_text.specs.declared.fault.BuildFault.TheVariants as build
+use Rattle.build_text.specs.Build.{build_of, build_text}
+use Rattle.build_text.specs.declared.fault.BuildFault.{BuildFault}
+use Rattle.build_text.specs.declared.fault.BuildFault.TheVariants as build
 use Rattle.ingest_app.specs.Run.{EndsWriting, not_yet_text}
 use Rattle.ingest_app.specs.declared.conversions.Conversion.{Conversion}
 use Rattle.ingest_app.specs.declared.conversions.Conversion.TheVariants.{Build, Show}
@@ -102,12 +102,6 @@ fault_at number writer.OutOfMemory = build.OutOfMemory
 abbrev pub unfinished : FinishFault → BuildFault
 unfinished finish.NoEntry = build.NoEntry
 unfinished finish.OutOfMemory = build.OutOfMemory
-
--- what a table's writer was given of a build text, or the text's first fault, unless memory is wanted
-abbrev pub GivesWriter : Result (List Entry) BuildFault → Result (List Entry) BuildFault → Type 0
-GivesWriter (Ok entries) reading = some_entries (Ok entries) ≡ reading
-GivesWriter (Err build.OutOfMemory) reading = Unit {0}
-GivesWriter (Err fault) reading = reading ≡ Err fault
 
 -- what a writer of a build text's table has found out: its table, or its first fault, unless memory is wanted
 abbrev pub GivesTable : Result (List ℕ) BuildFault → Result (List Entry) BuildFault → Type 0

@@ -1,16 +1,16 @@
 //! Build text to a table.
-ghost use Rattle.std.specs.Prelude.{◌≡◌, ◌≤◌, ◌<◌, ◌++◌, IsTrue, length, IfOk, OnOk};
+ghost use Rattle.std.specs.Prelude.{◌≡◌, ◌≤◌, ◌<◌, ◌++◌, [], length, IfOk, OnOk, Ok};
 ghost use Rattle.std.specs.Fmt.{decimal};
-ghost use Rattle.st_base.specs.declared.entry.Mark.TheVariants.{Put, Gone};
-ghost use Rattle.cmd_text.specs.Build.{GivesMore, build_of, is_within, some_entries, unnumbered, with_build_line, with_line_entry};
-ghost use Rattle.ingest_app.specs.Convert.{EndsBytes, GivesTable, GivesWriter, build_cause, fault_at, fit_table, unfinished};
+ghost use Rattle.build_text.specs.Build.{GivesEntries, build_of, entries_from, some_entries};
+ghost use Rattle.build_text.specs.Words.{text_parts};
+ghost use Rattle.ingest_app.specs.Convert.{EndsBytes, GivesTable, build_cause, fault_at, fit_table, unfinished};
 
 use crate::conversions::{Conversion, refused};
 use crate::outcome::Outcome;
 use crate::status::Status;
-use cmd_text::{BuildFault, BuildLineFault, next_build_line, read_build_line};
+use build_text::{BuildFault, EntryWriter, LineEntry, write_build};
 use sst_writer::{FinishFault, SstFileWriter, WriterFault};
-use st_base::{Bytes, Key, Mark, Value};
+use st_base::Bytes;
 use std::alloc::{AllocError, Global};
 
 // The fault of an entry that the writer doesn't take, which stands in the line of this number.
@@ -24,92 +24,39 @@ fn fault_at(number: u32, fault: WriterFault) -> BuildFault
     }
 }
 
-// Puts a key and its value into the writer, which stand in the line of this number.
-fn write_put(
-    alloc: Global,
-    writer: &mut SstFileWriter,
-    number: u32,
-    key: &Key,
-    value: &Value,
-) -> Result<(), BuildFault>
-    requires { IsTrue (is_within (unnumbered key.now (Put value.now))) }
-    ensures { GivesMore result writer.new (with_line_entry fit_table writer.old number (unnumbered key.now (Put value.now))) }
-{
-    match writer.put(alloc, key, value) {
-        Ok(()) => Ok(()),
-        Err(fault) => Err(fault_at(number, fault)),
-    }
+// A table's writer, which takes the entries of a build text's lines.
+#[derive(Drop)]
+struct TableLines {
+    writer: SstFileWriter,
 }
 
-// Puts the tombstone of a key into the writer, which stands in the line of this number.
-fn write_tombstone(
-    alloc: Global,
-    writer: &mut SstFileWriter,
-    number: u32,
-    key: &Key,
-) -> Result<(), BuildFault>
-    requires { IsTrue (is_within (unnumbered key.now Gone)) }
-    ensures { GivesMore result writer.new (with_line_entry fit_table writer.old number (unnumbered key.now Gone)) }
-{
-    match writer.delete(alloc, key) {
-        Ok(()) => Ok(()),
-        Err(fault) => Err(fault_at(number, fault)),
-    }
-}
+/// The entries have to fit one external table.
+impl EntryWriter for TableLines {
+    ghost use Rattle.ingest_app.specs.Convert.{fit_table};
 
-// Puts an entry into the writer, which stands in the line of this number.
-fn write_entry(
-    alloc: Global,
-    writer: &mut SstFileWriter,
-    number: u32,
-    key: &Key,
-    mark: &Mark,
-) -> Result<(), BuildFault>
-    requires { IsTrue (is_within (unnumbered key.now mark.now)) }
-    ensures { GivesMore result writer.new (with_line_entry fit_table writer.old number (unnumbered key.now mark.now)) }
-{
-    match mark {
-        Mark::Put(value) => write_put(alloc, writer, number, key, value),
-        Mark::Gone => write_tombstone(alloc, writer, number, key),
-    }
-}
+    ghost entries = { λ lines. lines.writer };
 
-// Puts the entry of the line of this number into the writer.
-fn write_line(
-    alloc: Global,
-    writer: &mut SstFileWriter,
-    number: u32,
-    line: &[u8],
-) -> Result<(), BuildFault>
-    ensures { GivesMore result writer.new (with_build_line fit_table writer.old number line.now) }
-{
-    match read_build_line(alloc, line) {
-        Ok((key, mark)) => write_entry(alloc, writer, number, &key, &mark),
-        Err(BuildLineFault::Line) => Err(BuildFault::Line { line: number }),
-        Err(BuildLineFault::TooLarge) => Err(BuildFault::TooLarge { line: number }),
-        Err(BuildLineFault::OutOfMemory) => Err(BuildFault::OutOfMemory),
+    ghost fits = { fit_table };
+
+    fn write(&mut self, alloc: Global, line: u32, entry: LineEntry<'_>) -> Result<(), BuildFault> {
+        match self.writer.add(alloc, entry.key, entry.mark) {
+            Ok(()) => Ok(()),
+            Err(fault) => Err(fault_at(line, fault)),
+        }
     }
 }
 
 // A writer with the entries of the text's lines.
 fn write_lines(alloc: Global, text: &[u8]) -> Result<SstFileWriter, BuildFault>
     requires { length text.now < 4294967295 }
-    ensures { GivesWriter result (build_of fit_table text.now) }
+    ensures { GivesEntries result (entries_from fit_table [] 1 (text_parts text.now)) }
 {
-    let mut writer = SstFileWriter::new(alloc)?;
-    let mut rest = text;
-    let mut number: u32 = 0;
-    while !rest.is_empty() {
-        number += 1;
-        let Some((line, after)) = next_build_line(rest) else {
-            return Err(BuildFault::Line { line: number });
-        };
-        match write_line(alloc, &mut writer, number, line) {
-            Ok(()) => rest = after,
-            Err(fault) => return Err(fault),
-        }
+    let writer = SstFileWriter::new(alloc)?;
+    let mut lines = TableLines { writer };
+    match write_build(alloc, text, &mut lines) {
+        Ok(()) => Ok(lines.writer),
+        Err(fault) => Err(fault),
     }
-    Ok(writer)
 }
 
 // The fault of a writer that isn't finished.

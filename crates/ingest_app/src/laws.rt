@@ -4,7 +4,7 @@ ghost use Rattle.ingest_app.specs.declared.conversions.Conversion.TheVariants.{B
 ghost use Rattle.ingest_app.specs.declared.status.Status.{Status};
 ghost use Rattle.ingest_app.specs.declared.status.Status.TheVariants.{Done};
 
-use cmd_text::build_text_is_read;
+use build_text::build_text_is_read;
 use st_table::{table_or_first_fault, written_table_opens};
 
 /// Of the table that `build` writes of a text, `show` writes this text, and ends in no other way.

@@ -1,13 +1,13 @@
 //! A table to its build text.
 ghost use Rattle.std.specs.Prelude.{◌≡◌, IfOk};
 ghost use Rattle.st_base.specs.Faults.{printed_table_fault};
-ghost use Rattle.cmd_text.specs.Build.{build_text};
+ghost use Rattle.build_text.specs.Build.{build_text};
 ghost use Rattle.ingest_app.specs.Convert.{EndsBytes};
 
 use crate::conversions::{Conversion, refused};
 use crate::outcome::Outcome;
 use crate::status::Status;
-use cmd_text::push_build_line;
+use build_text::push_build_line;
 use st_base::{Bytes, Rows, Scratch};
 use st_table::{OpenTableFault, Table, TableKind};
 use std::alloc::{AllocError, Global};

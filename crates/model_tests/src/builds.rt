@@ -1,6 +1,6 @@
-// cmd_text: build text.
+// build_text: build text.
 
-use cmd_text::{
+use build_text::{
     BuildFault, BuildLineFault, build_text_is_read, next_build_line, print_build, push_build_line,
     read_build, read_build_line,
 };

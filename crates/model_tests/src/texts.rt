@@ -1,8 +1,7 @@
 // cmd_text: client files, and the lines of replies.
 
-use cmd_text::{
-    LineFault, ScriptFault, print_reply, push_reply, read_reply, read_script, word_is_read,
-};
+use build_text::word_is_read;
+use cmd_text::{LineFault, ScriptFault, print_reply, push_reply, read_reply, read_script};
 use st_base::{Bytes, Family, Key, MakeFault, Value};
 use st_model::{Command, Op, Refusal, Reply};
 use std::alloc::{AllocError, Global};

@@ -138,17 +138,16 @@ pub record More (new : Writer) (entries : List Entry) (key : List ℕ) (mark : M
   pub rows : MayBeTable External (held new)
   pub keeps : (last : List ℕ) → last ≡ key → IsSst new false last
 
-pub more : WrittenOpens → (w new : Writer) (empty : Bool) (last : List ℕ) (entries : List Entry) (key slice : List ℕ) (mark : Mark) → IsSst w empty last → held w ≡ entries → slice ≡ key → new ≡ entry_added w (entry_with slice mark)
-    → rises_to entries key ≡ true → length key ≤ 65535 → FitsMark mark → length (finished_table (entry_added w (entry_with slice mark))) ≤ greatest_size w.kind → More new entries key mark
-more opens w new empty last entries key slice mark sst has same is_added rises short fits room =
+pub more : WrittenOpens → (w new : Writer) (empty : Bool) (last : List ℕ) (entries : List Entry) (key : List ℕ) (mark : Mark) → IsSst w empty last → held w ≡ entries → new ≡ entry_added w (entry_with key mark)
+    → rises_to entries key ≡ true → length key ≤ 65535 → FitsMark mark → length (finished_table (entry_added w (entry_with key mark))) ≤ greatest_size w.kind → More new entries key mark
+more opens w new empty last entries key mark sst has is_new rises short fits room =
     let e = entry_with key mark in
     let whole = entries ++ e ∷ [] in
-    let is_new : new ≡ entry_added w e = is_added ∙ ap (λ (k : List ℕ). entry_added w (entry_with k mark)) same in
     let kind : new.kind ≡ External = ap (λ (x : Writer). x.kind) is_new ∙ kind_more w e ∙ sst.kind in
     let old : HoldsEntries w entries = subst (λ (l : List Entry). HoldsEntries w l) has sst.holds in
     let holds : HoldsEntries new whole = subst (λ (x : Writer). HoldsEntries x whole) (sym is_new) (table_holds_more w entries e old) in
     let may : MayBeTable External whole = may_more entries key mark (subst (λ (l : List Entry). MayBeTable External l) has sst.rows) rises short fits in
-    let size : length (finished_table new) ≤ greatest_size External = subst (λ (x : Writer). length (finished_table x) ≤ greatest_size External) (sym is_added) (subst (λ (k : TableKind). length (finished_table (entry_added w (entry_with slice mark))) ≤ greatest_size k) sst.kind room) in
+    let size : length (finished_table new) ≤ greatest_size External = subst (λ (x : Writer). length (finished_table x) ≤ greatest_size External) (sym is_new) (subst (λ (k : TableKind). length (finished_table (entry_added w e)) ≤ greatest_size k) sst.kind room) in
     let is : held new ≡ whole = held_is opens new whole kind holds may size in
     let rows : MayBeTable External (held new) = subst (λ (l : List Entry). MayBeTable External l) (sym is) may in
     let kept : HoldsEntries new (held new) = subst (λ (l : List Entry). HoldsEntries new l) (sym is) holds in
@@ -165,14 +164,13 @@ more opens w new empty last entries key slice mark sst has same is_added rises s
     }
 
 -- the table with an entry more that isn't added
-pub too_large_of : (w : Writer) (empty : Bool) (last : List ℕ) (entries : List Entry) (key slice : List ℕ) (mark : Mark) → IsSst w empty last → held w ≡ entries → slice ≡ key
-    → greatest_size w.kind < length (finished_table (entry_added w (entry_with slice mark))) → greatest_size External < length (written_table External (entries ++ entry_with key mark ∷ []))
-too_large_of w empty last entries key slice mark sst has same large =
-    let e = entry_with slice mark in
+pub too_large_of : (w : Writer) (empty : Bool) (last : List ℕ) (entries : List Entry) (key : List ℕ) (mark : Mark) → IsSst w empty last → held w ≡ entries
+    → greatest_size w.kind < length (finished_table (entry_added w (entry_with key mark))) → greatest_size External < length (written_table External (entries ++ entry_with key mark ∷ []))
+too_large_of w empty last entries key mark sst has large =
+    let e = entry_with key mark in
     let old : HoldsEntries w entries = subst (λ (l : List Entry). HoldsEntries w l) has sst.holds in
     let is : finished_table (entry_added w e) ≡ written_table External (entries ++ e ∷ []) = written_is (entry_added w e) (entries ++ e ∷ []) (kind_more w e ∙ sst.kind) (table_holds_more w entries e old) in
-    subst (λ (k : List ℕ). greatest_size External < length (written_table External (entries ++ entry_with k mark ∷ []))) same
-    (subst (λ (l : List ℕ). greatest_size External < length l) is (subst (λ (k : TableKind). greatest_size k < length (finished_table (entry_added w e))) sst.kind large))
+    subst (λ (l : List ℕ). greatest_size External < length l) is (subst (λ (k : TableKind). greatest_size k < length (finished_table (entry_added w e))) sst.kind large)
 
 -- the fault that a table's writer gave
 pub fault_was : (fault : AddFault) (to : WriterFault) → to ≡ writer_fault fault → to ≡ TooLarge → fault ≡ add.TooLarge

@@ -8,7 +8,7 @@ ghost use Rattle.st_table.specs.declared.kind.TableKind.TheVariants.{External};
 ghost use Rattle.sst_writer.specs.Sst.{entry_with, rises_to};
 
 use crate::fault::{FinishFault, WriterFault};
-use st_base::{Bytes, EntryRef, Key, MarkRef, Scratch, Value};
+use st_base::{Bytes, EntryRef, KEY_BYTES, Key, MarkRef, Scratch, Value};
 use st_table::{TableKind, TableWriter, written_table_opens};
 use std::alloc::{AllocError, Global};
 use std::marker::Model;
@@ -50,15 +50,17 @@ impl SstFileWriter {
     }
 
     // Whether the key is greater than that of the last entry, if there is one.
-    fn rises_to(&self, key: &Key) -> bool
+    fn rises_to(&self, key: &[u8]) -> bool
         ensures { result ≡ rises_to self.now key.now }
     {
-        self.is_empty || self.last.as_slice().cmp(key.as_bytes()).is_lt()
+        self.is_empty || self.last.as_slice().cmp(key).is_lt()
     }
 
-    // Puts an entry at the end, or leaves the writer as it was.
-    fn add(&mut self, alloc: Global, key: &Key, mark: MarkRef<'_>) -> Result<(), WriterFault>
-        requires { FitsMark (mark_of mark) }
+    /// Adds a key and its mark where they lie in memory: `put` of a value, `delete` of a tombstone. The key and the value are
+    /// within their limits; the errors are those of `put`.
+    pub fn add(&mut self, alloc: Global, key: &[u8], mark: MarkRef<'_>) -> Result<(), WriterFault>
+        requires key { length key.now ≤ KEY_BYTES }
+        requires mark { FitsMark (mark_of mark) }
         ensures ok { OnOk result (self.new ≡ self.old ++ entry_with key.now (mark_of mark.entry) ∷ []) }
         ensures fits { OnOk result (length (written_table External self.new) ≤ greatest_size External) }
         ensures not_rising { IsErrOf result WriterFault.NotRising ↔ IsFalse (rises_to self.old key.now) }
@@ -71,14 +73,14 @@ impl SstFileWriter {
         }
         written_table_opens();
         let entry = EntryRef {
-            key: key.as_bytes(),
+            key,
             number: 0,
             mark,
         };
         if let Err(fault) = self.table.add(alloc, entry) {
             return Err(fault.into());
         }
-        self.last.keep_and_add(0, key.as_bytes());
+        self.last.keep_and_add(0, key);
         self.is_empty = false;
         Ok(())
     }
@@ -96,7 +98,7 @@ impl SstFileWriter {
         ensures rows { MayBeTable External self.new }
         ensures err { OnErr result (self.new ≡ self.old) }
     {
-        self.add(alloc, key, MarkRef::Put(value.as_bytes()))
+        self.add(alloc, key.as_bytes(), MarkRef::Put(value.as_bytes()))
     }
 
     /// Puts a tombstone of the key into the table. The key is to be greater than the last one; the errors are those of `put`.
@@ -108,7 +110,7 @@ impl SstFileWriter {
         ensures rows { MayBeTable External self.new }
         ensures err { OnErr result (self.new ≡ self.old) }
     {
-        self.add(alloc, key, MarkRef::Gone)
+        self.add(alloc, key.as_bytes(), MarkRef::Gone)
     }
 
     /// The table of what was added, in at most 67,108,864 bytes. An error gives the writer back as it was: `NoEntry` comes

@@ -4,7 +4,6 @@ pub mod Apply
 pub mod Refusal
 pub mod Answer
 pub mod Reply
-pub mod Word
 pub mod Line
 pub mod Asked
 pub mod History

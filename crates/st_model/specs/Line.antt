@@ -6,7 +6,7 @@ use Rattle.st_model.specs.declared.refusal.Refusal.{Refusal}
 use Rattle.st_model.specs.declared.refusal.Refusal.TheVariants.{Stopped, UnknownFamily, NumbersSpent, StoreFull, DiskFault, OutOfMemory}
 use Rattle.st_model.specs.declared.reply.Reply.{Reply}
 use Rattle.st_model.specs.declared.reply.Reply.TheVariants.{Written, Found, Nothing, Refused}
-use Rattle.st_model.specs.Word.{word}
+use Rattle.st_base.specs.Word.{word}
 
 -- the number, the name and the arguments; want of memory stands in no transcript
 abbrev pub refusal_words : Refusal → List (List ℕ)

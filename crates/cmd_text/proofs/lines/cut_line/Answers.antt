@@ -1,9 +1,8 @@
-use Rattle.std.proofs.Common.{sym}
-use Rattle.cmd_text.proofs.Cutting.{lines_first, lines_last}
+use Rattle.cmd_text.proofs.FirstLine.{lines_first, lines_last}
 use Rattle.cmd_text.proofs.lines.cut_line.Goals as goal
 
 pub returns-in-None-clause-lines : goal.returns-in-None-clause-lines
-returns-in-None-clause-lines c = lines_last c.args.text.now c.requires (sym c.in-None.ensures)
+returns-in-None-clause-lines c = lines_last c.args.text.now c.requires c.in-None.ensures.parts
 
 pub returns-in-Some-clause-lines : goal.returns-in-Some-clause-lines
-returns-in-Some-clause-lines c = lines_first c.args.text.now c.in-Some.end (sym c.in-Some.ensures)
+returns-in-Some-clause-lines c = lines_first c.args.text.now c.in-Some.cut.0.now c.in-Some.cut.1.now c.in-Some.ensures.parts

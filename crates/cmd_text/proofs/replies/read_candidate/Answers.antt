@@ -2,7 +2,7 @@ use Rattle.std.proofs.Common.{◌≡◌, ◌∷◌, ◌∙◌}
 use Rattle.std.specs.Fmt.{decimal}
 use Rattle.std.specs.List.{join_with_byte}
 use Rattle.st_model.specs.Line.{reply_words}
-use Rattle.cmd_text.proofs.Joining.{line_words}
+use Rattle.cmd_text.proofs.ReplyWords.{line_words}
 use Rattle.cmd_text.proofs.replies.read_candidate.Goals as goal
 
 pub returns : goal.returns

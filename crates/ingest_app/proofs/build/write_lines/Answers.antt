@@ -1,6 +1,6 @@
 use Rattle.std.proofs.Common.{◌≡◌, ◌+◌, ◌∙◌, ap, arith, length, rules}
-use Rattle.cmd_text.specs.Build.{some_entries}
-use Rattle.cmd_text.proofs.Building.{build_begin, build_line_read}
+use Rattle.build_text.specs.Build.{some_entries}
+use Rattle.build_text.proofs.Building.{build_begin, build_line_read}
 use Rattle.ingest_app.specs.Convert.{fit_table}
 use Rattle.ingest_app.proofs.Lines.{lines_end, lines_stop}
 use Rattle.ingest_app.proofs.build.write_lines.Goals as goal

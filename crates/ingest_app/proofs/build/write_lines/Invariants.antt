@@ -1,5 +1,6 @@
 use Rattle.std.proofs.Common.{◌≡◌, ◌+◌, ◌≤◌, length}
-use Rattle.cmd_text.specs.Build.{build_of, entries_from, some_entries, text_parts}
+use Rattle.build_text.specs.Words.{text_parts}
+use Rattle.build_text.specs.Build.{build_of, entries_from, some_entries}
 use Rattle.ingest_app.specs.Convert.{fit_table}
 use Rattle.ingest_app.proofs.build.write_lines.Given as goal
 

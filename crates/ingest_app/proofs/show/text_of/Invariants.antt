@@ -1,5 +1,5 @@
 use Rattle.std.proofs.Common.{◌≡◌, take}
-use Rattle.cmd_text.specs.Build.{build_text}
+use Rattle.build_text.specs.Build.{build_text}
 use Rattle.ingest_app.proofs.show.text_of.Given as goal
 
 abbrev pub invariant-loop-index : goal.invariant-loop-index

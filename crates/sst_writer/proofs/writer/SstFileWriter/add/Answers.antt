@@ -9,29 +9,29 @@ pub returns-in-Err-clause-too_large : goal.returns-in-Err-clause-too_large
 returns-in-Err-clause-too_large c = λ e.
     let i = c.self.inside in
     let to : c.into.result ≡ TooLarge = cc in
-    too_large_of i.table i.is_empty i.last c.args.self.now c.args.key.now c.as_bytes.result.now (mark_of c.args.mark) c.self.invariant c.self.view_is c.as_bytes.ensures.value
+    too_large_of i.table i.is_empty i.last c.args.self.now c.args.key.now (mark_of c.args.mark) c.self.invariant c.self.view_is
     (c.add.ensures.too_large (c.in-Err.is ∙ ap (λ (f : AddFault). Err f) (fault_was c.in-Err.fault c.into.result c.into.ensures to)))
 
 pub invariant_of-self-2 : goal.invariant_of-self-2
 invariant_of-self-2 c =
     let i = c.self.inside in
-    (more c.written_table_opens.ensures i.table c.add.new.self i.is_empty i.last c.args.self.now c.args.key.now c.as_bytes.result.now (mark_of c.args.mark) c.self.invariant c.self.view_is c.as_bytes.ensures.value c.in_default.ensures.ok
-    (sym c.rises_to.ensures ∙ c.if-not-rises_to.false) c.as_bytes.ensures.within c.requires c.in_default.ensures.fits).keeps c.keep_and_add.new.self (c.keep_and_add.ensures ∙ c.as_bytes-2.ensures.value)
+    (more c.written_table_opens.ensures i.table c.add.new.self i.is_empty i.last c.args.self.now c.args.key.now (mark_of c.args.mark) c.self.invariant c.self.view_is c.in_default.ensures.ok
+    (sym c.rises_to.ensures ∙ c.if-not-rises_to.false) c.requires.key c.requires.mark c.in_default.ensures.fits).keeps c.keep_and_add.new.self c.keep_and_add.ensures
 
 pub returns-clause-ok : goal.returns-clause-ok
 returns-clause-ok c =
     let i = c.self.inside in
-    (more c.written_table_opens.ensures i.table c.add.new.self i.is_empty i.last c.args.self.now c.args.key.now c.as_bytes.result.now (mark_of c.args.mark) c.self.invariant c.self.view_is c.as_bytes.ensures.value c.in_default.ensures.ok
-    (sym c.rises_to.ensures ∙ c.if-not-rises_to.false) c.as_bytes.ensures.within c.requires c.in_default.ensures.fits).is
+    (more c.written_table_opens.ensures i.table c.add.new.self i.is_empty i.last c.args.self.now c.args.key.now (mark_of c.args.mark) c.self.invariant c.self.view_is c.in_default.ensures.ok
+    (sym c.rises_to.ensures ∙ c.if-not-rises_to.false) c.requires.key c.requires.mark c.in_default.ensures.fits).is
 
 pub returns-clause-fits : goal.returns-clause-fits
 returns-clause-fits c =
     let i = c.self.inside in
-    (more c.written_table_opens.ensures i.table c.add.new.self i.is_empty i.last c.args.self.now c.args.key.now c.as_bytes.result.now (mark_of c.args.mark) c.self.invariant c.self.view_is c.as_bytes.ensures.value c.in_default.ensures.ok
-    (sym c.rises_to.ensures ∙ c.if-not-rises_to.false) c.as_bytes.ensures.within c.requires c.in_default.ensures.fits).fits
+    (more c.written_table_opens.ensures i.table c.add.new.self i.is_empty i.last c.args.self.now c.args.key.now (mark_of c.args.mark) c.self.invariant c.self.view_is c.in_default.ensures.ok
+    (sym c.rises_to.ensures ∙ c.if-not-rises_to.false) c.requires.key c.requires.mark c.in_default.ensures.fits).fits
 
 pub returns-clause-rows : goal.returns-clause-rows
 returns-clause-rows c =
     let i = c.self.inside in
-    (more c.written_table_opens.ensures i.table c.add.new.self i.is_empty i.last c.args.self.now c.args.key.now c.as_bytes.result.now (mark_of c.args.mark) c.self.invariant c.self.view_is c.as_bytes.ensures.value c.in_default.ensures.ok
-    (sym c.rises_to.ensures ∙ c.if-not-rises_to.false) c.as_bytes.ensures.within c.requires c.in_default.ensures.fits).rows
+    (more c.written_table_opens.ensures i.table c.add.new.self i.is_empty i.last c.args.self.now c.args.key.now (mark_of c.args.mark) c.self.invariant c.self.view_is c.in_default.ensures.ok
+    (sym c.rises_to.ensures ∙ c.if-not-rises_to.false) c.requires.key c.requires.mark c.in_default.ensures.fits).rows
