@@ -1,11 +1,11 @@
 -- How many entries a search reads.
-use Rattle.std.proofs.Common.{◌≡◌, ℕ, zero, suc, ◌+◌, ◌-◌, ◌*◌, ◌^◌, ◌<◌, ◌≤◌, ◌⊎◌, Bool, true, false, cond, eqb, List, [], ◌∷◌, length, max, take, drop, refl, sym, ap, subst, ◌∙◌, inl, inr, arith}
+use Rattle.std.proofs.Common.{◌≡◌, ℕ, zero, suc, ◌+◌, ◌-◌, ◌*◌, ◌^◌, ◌<◌, ◌≤◌, Bool, true, false, cond, eqb, List, [], ◌∷◌, length, drop, refl, sym, ap, subst, ◌∙◌, inl, inr, arith}
 use Rattle.std.specs.Int.{w32, from_le_bytes}
 use Rattle.std.proofs.Math.Nat.{le_trans, le-max_left, le-max_right, mul-le-mul_left, pow-suc}
 use Rattle.std.proofs.lemmas.Bool.{cases_lt}
 use Rattle.st_block.specs.Block.{Cell, offsets_at}
 use Rattle.st_block.specs.InternalKey.{is_key_before}
-use Rattle.st_block.specs.BlockContents.{BlockContents, cells_at, cells_from_place, cells_in, block_contents_in}
+use Rattle.st_block.specs.BlockContents.{BlockContents, cells_at, cells_from_place, block_contents_in}
 use Rattle.st_block.specs.Search.{IsLast, IsShort, IsWalked, widest}
 use Rattle.st_block.specs.declared.kind.BlockKind.{BlockKind}
 use Rattle.st_block.specs.declared.open.Layout.{Layout}

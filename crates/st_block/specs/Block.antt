@@ -8,8 +8,10 @@ use Rattle.st_base.specs.Bytes.{bytes_cmp}
 use Rattle.st_base.specs.Order.{rises}
 use Rattle.st_base.specs.declared.faults.BlockFault.{BlockFault}
 use Rattle.st_base.specs.declared.faults.BlockFault.TheVariants.{Restarts, Entry, Order}
+use Rattle.st_base.specs.declared.limits.TheConstants.{INTERNAL_KEY_BYTES}
 use Rattle.st_code.specs.Varint.{varint32_at}
 use Rattle.st_block.specs.InternalKey.{internal_cmp}
+use Rattle.st_block.specs.declared.internal_key.TheConstants.{PACKED_BYTES}
 use Rattle.st_block.specs.declared.kind.BlockKind.{BlockKind}
 use Rattle.st_block.specs.declared.kind.BlockKind.TheVariants.{Data, Index, Plain}
 
@@ -35,10 +37,10 @@ head_at area at =
     Some (record { shared = shared.0; unshared = unshared.0; value = value.0; behind = value.1 }))
     (result_ok (varint32_at area unshared.1))) (result_ok (varint32_at area shared.1))) (result_ok (varint32_at area at))
 
--- it shares no more than the key before has, its key has at most 65,543 bytes, and it ends with the entries or before
+-- it shares no more than the key before has, its key is within its limit, and it ends with the entries or before
 abbrev pub fits : List ℕ → List ℕ → Head → Bool
 fits area before head =
-    nat_le head.shared (length before) && (nat_le (head.shared + head.unshared) 65543 && nat_le (head.behind + head.unshared + head.value) (length area))
+    nat_le head.shared (length before) && (nat_le (head.shared + head.unshared) INTERNAL_KEY_BYTES && nat_le (head.behind + head.unshared + head.value) (length area))
 
 -- what an entry with this head is, and the place behind it
 abbrev pub laid : List ℕ → List ℕ → ℕ → Head → Cell × ℕ
@@ -60,8 +62,8 @@ cell_at area before at = option_and_then (λ head. if fits area before head then
 
 -- keys of data and index blocks are internal keys
 abbrev pub is_long_enough : BlockKind → List ℕ → Bool
-is_long_enough Data key = nat_le 8 (length key)
-is_long_enough Index key = nat_le 8 (length key)
+is_long_enough Data key = nat_le PACKED_BYTES (length key)
+is_long_enough Index key = nat_le PACKED_BYTES (length key)
 is_long_enough Plain key = true
 
 -- keys rise; in data blocks that is not looked at

@@ -5,6 +5,7 @@ use Rattle.std.specs.List.{fold, list_all}
 use Rattle.st_block.specs.Block.{Cell, Head, block_of, cells_from, entries_end, entries_of, is_long_enough, is_restart, offsets_at, restarts_of}
 use Rattle.st_base.specs.declared.faults.BlockFault.{BlockFault}
 use Rattle.st_base.specs.declared.faults.BlockFault.TheVariants.{Restarts, Entry}
+use Rattle.st_base.specs.declared.limits.TheConstants.{INTERNAL_KEY_BYTES}
 use Rattle.st_block.specs.declared.kind.BlockKind.TheVariants.{Data}
 use Rattle.st_block.specs.declared.kind.BlockKind.{BlockKind}
 use Rattle.st_block.specs.declared.open.CellCounts.{CellCounts}
@@ -31,7 +32,7 @@ pub record IsHead (at length : ℕ) (head : Lengths) : Type 0 where
 -- a head of an entry that fits behind a key
 pub record IsFitting (area before : List ℕ) (at : ℕ) (head : Lengths) : Type 0 where
   pub shared : head.shared ≤ length before
-  pub room : head.shared + head.unshared ≤ 65543
+  pub room : head.shared + head.unshared ≤ INTERNAL_KEY_BYTES
   pub behind : at < head.behind
   pub within : head.behind + head.unshared + head.value ≤ length area
 

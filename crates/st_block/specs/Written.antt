@@ -1,6 +1,7 @@
 -- How a block is written: entries with the greatest possible shared lengths, restarts at every so many of them.
 use Rattle.std.specs.Prelude.{◌≡◌, ◌≤◌, ◌<◌, ◌^◌, ℕ, ◌+◌, ◌-◌, ◌%◌, ◌==◌, nat_eq, List, [], ◌∷◌, ◌++◌, length, drop, IsTrue, if◌then◌else◌}
 use Rattle.std.specs.List.{common_prefix_len, flat_map}
+use Rattle.st_base.specs.declared.limits.TheConstants.{INTERNAL_KEY_BYTES, VALUE_BYTES}
 use Rattle.st_code.specs.Fixed.{fixed32}
 use Rattle.st_code.specs.Varint.{varint}
 use Rattle.st_block.specs.Block.{Cell, is_after, is_long_enough}
@@ -88,8 +89,8 @@ Appends old new = (more : List ℕ) × (new ≡ old ++ more)
 
 -- a key and a value are within their limits, and the key is long enough for the kind of block
 pub record FitsBlock (kind : BlockKind) (pair : List ℕ × List ℕ) : Type 0 where
-  pub key : length pair.0 ≤ 65543
-  pub value : length pair.1 ≤ 1048576
+  pub key : length pair.0 ≤ INTERNAL_KEY_BYTES
+  pub value : length pair.1 ≤ VALUE_BYTES
   pub long : IsTrue (is_long_enough kind pair.0)
 
 -- keys behind a key, in the order of the kind of block

@@ -1,9 +1,21 @@
-ghost use Rattle.std.specs.Prelude.{◌≡◌, ◌<◌, ◌≤◌, length, Some, None, IfNone, IfSome, MatchOption, option_map, slice_range};
-ghost use Rattle.st_block.specs.Block.{Cell, cell_at, fits, head_at, laid};
+//! An entry of a block. Its key begins with bytes of the key before:
+//!
+//! ```text
+//! shared     varint32: how many bytes of the key before its key begins with
+//! unshared   varint32: how many bytes its key has behind these
+//! length     varint32: how many bytes its value has
+//! key        the unshared bytes
+//! value
+//! ```
+ghost use Rattle.std.specs.Prelude.{◌≡◌, ◌+◌, ◌<◌, ◌≤◌, [], ◌∷◌, ◌++◌, length, Some, None, IfNone, IfSome, OnErr, OnOk, option_map};
+ghost use Rattle.st_block.specs.Block.{cell_at, fits, head_at, laid};
 ghost use Rattle.st_block.specs.Entry.{AreLengths, IsFitting, IsHead, IsRead, cell_of, head_of};
+ghost use Rattle.st_code.specs.Varint.{varint};
+ghost use Rattle.st_block.specs.Written.{Appends, entry_bytes};
 
-use st_base::{INTERNAL_KEY_BYTES, Scratch};
-use st_code::read_varint32;
+use st_base::{Bytes, INTERNAL_KEY_BYTES, Scratch, VALUE_BYTES};
+use st_code::{push_varint, read_varint32, varint_len};
+use std::alloc::AllocError;
 
 /// The lengths that an entry begins with, in bytes.
 #[derive(Clone, Copy)]
@@ -85,4 +97,91 @@ pub(crate) fn read_at(area: &[u8], at: usize, scratch: &mut Scratch) -> Option<R
         value,
         next: value + head.value,
     })
+}
+
+// Puts three numbers at the end that have one byte each.
+fn put_short_lengths(
+    out: &mut Bytes,
+    shared: usize,
+    unshared: usize,
+    value: usize,
+) -> Result<(), AllocError>
+    requires shared { shared < 128 }
+    requires unshared { unshared < 128 }
+    requires value { value < 128 }
+    ensures ok { OnOk result (out.new ≡ out.old ++ (shared ∷ unshared ∷ value ∷ [])) }
+    ensures err { OnErr result (out.new ≡ out.old) }
+{
+    out.extend_from_slice(&[shared as u8, unshared as u8, value as u8])
+}
+
+// Puts the lengths of an entry at the end, at once where each has one byte; where memory runs out, some of them may stand
+// there.
+fn put_lengths(
+    out: &mut Bytes,
+    shared: usize,
+    unshared: usize,
+    value: usize,
+) -> Result<(), AllocError>
+    ensures ok { OnOk result (out.new ≡ out.old ++ (varint shared ++ varint unshared ++ varint value)) }
+    ensures err { OnErr result (Appends out.old out.new) }
+{
+    if shared < 128 && unshared < 128 && value < 128 {
+        return put_short_lengths(out, shared, unshared, value);
+    }
+    push_varint(out, shared as u64)?;
+    push_varint(out, unshared as u64)?;
+    push_varint(out, value as u64)
+}
+
+// Puts an entry at the end; where memory runs out, some of it may stand there.
+pub(crate) fn put_entry(
+    out: &mut Bytes,
+    shared: usize,
+    key: &[u8],
+    value: &[u8],
+) -> Result<(), AllocError>
+    requires { shared ≤ length key.now }
+    ensures ok { OnOk result (out.new ≡ out.old ++ entry_bytes shared key.now value.now) }
+    ensures err { OnErr result (Appends out.old out.new) }
+{
+    put_lengths(out, shared, key.len() - shared, value.len())?;
+    out.extend_from_slice(&key[shared..])?;
+    out.extend_from_slice(value)
+}
+
+// Puts an entry at the end, or leaves the bytes as they were.
+pub(crate) fn push_entry(
+    out: &mut Bytes,
+    shared: usize,
+    key: &[u8],
+    value: &[u8],
+) -> Result<(), AllocError>
+    requires { shared ≤ length key.now }
+    ensures ok { OnOk result (out.new ≡ out.old ++ entry_bytes shared key.now value.now) }
+    ensures err { OnErr result (out.new ≡ out.old) }
+{
+    let before = out.len();
+    match put_entry(out, shared, key, value) {
+        Ok(()) => Ok(()),
+        Err(error) => {
+            out.truncate(before);
+            Err(error)
+        }
+    }
+}
+
+// How many bytes an entry has that shares so many with the key before.
+pub(crate) fn entry_size(shared: usize, key: &[u8], value: &[u8]) -> usize
+    requires shared { shared ≤ length key.now }
+    requires key { length key.now ≤ INTERNAL_KEY_BYTES }
+    requires value { length value.now ≤ VALUE_BYTES }
+    ensures size { result ≡ length (entry_bytes shared key.now value.now) }
+    ensures within { result ≤ INTERNAL_KEY_BYTES + VALUE_BYTES + 30 }
+{
+    let unshared = key.len() - shared;
+    let lengths = varint_len(shared as u64)
+        + varint_len(unshared as u64)
+        + varint_len(value.len() as u64);
+    lengths + unshared + value.len()
 }

@@ -14,6 +14,7 @@
 
 mod block;
 mod entry;
+mod internal_key;
 mod keys;
 mod kind;
 mod laws;
@@ -23,7 +24,10 @@ mod walk;
 mod writer;
 
 pub use block::{Block, BlockEntry};
-pub use keys::{internal_cmp, packed};
+pub use internal_key::{
+    KINDS, PACKED_BYTES, TOMBSTONE_KIND, VALUE_KIND, entry_under, internal_cmp, internal_key_in,
+    is_kind, packed, unpacked, user_key, value_under,
+};
 pub use kind::BlockKind;
 pub use laws::{index_keys_rise, writer_holds_what_is_added, written_block_opens};
 pub use writer::BlockWriter;

@@ -1,12 +1,13 @@
-ghost use Rattle.std.specs.Prelude.{◌≡◌, ◌≢◌, ◌+◌, ◌*◌, ◌≤◌, ◌++◌, length, take, IfErr, IfOk, OnOk, IsTrue, List, Ok, Err, slice_range};
+ghost use Rattle.std.specs.Prelude.{◌≡◌, ◌≢◌, ◌+◌, ◌*◌, ◌≤◌, length, take, IfErr, IfOk, OnOk, IsTrue, List, Ok, Err};
 ghost use Rattle.st_block.specs.Block.{Cell, block_of, entries_of, is_long_enough, next_cell, tail_of, restarts_fit};
 ghost use Rattle.st_block.specs.Entry.{IsLayout, IsRead, IsUnfit, MayStand, IsTested, cell_of, pass, restarts_left};
 
 use crate::entry::{ReadCell, head_behind};
 use crate::keys::{is_after, is_long};
 use crate::kind::BlockKind;
-use crate::tail::{Tail, offset_at, tail_of};
+use crate::tail::{Tail, tail_of};
 use st_base::{BlockFault, Scratch};
+use st_code::fixed32_in;
 
 /// What testing the entries has counted.
 #[derive(Clone, Copy)]
@@ -64,7 +65,7 @@ fn met_by(text: &[u8], tail: Tail, met: usize, at: usize, shared: usize) -> usiz
     if met == tail.count {
         return met;
     }
-    let is_met = offset_at(text, tail.end + 4 * met) as usize == at && shared == 0;
+    let is_met = fixed32_in(text, tail.end + 4 * met) as usize == at && shared == 0;
     if is_met { met + 1 } else { met }
 }
 

@@ -1,22 +1,24 @@
-ghost use Rattle.std.specs.Prelude.{◌≡◌, ◌+◌, ◌*◌, ◌≤◌, drop, length, IfNone, IfSome, Some, None};
-ghost use Rattle.std.specs.Int.{w32, from_le_bytes};
+//! The tail of a block, behind its entries:
+//!
+//! ```text
+//! restart offset ..   each a fixed32: the offset of an entry that shares nothing; the first is 0, and they rise
+//! count               fixed32: how many there are
+//! ```
+ghost use Rattle.std.specs.Prelude.{◌≡◌, ℕ, ◌+◌, ◌*◌, ◌<◌, ◌≤◌, ◌^◌, List, ◌++◌, length, IfNone, IfSome, OnOk, Some, None};
+ghost use Rattle.std.specs.List.{flat_map};
+ghost use Rattle.st_code.specs.Fixed.{fixed32};
 ghost use Rattle.st_block.specs.Block.{are_restarts, offsets_at, tail_of};
+ghost use Rattle.st_block.specs.Written.{or_zero, with_tail};
 
-use st_code::read_fixed32;
+use st_base::Bytes;
+use st_code::{fixed32_in, push_fixed32};
+use std::alloc::AllocError;
 
 /// Where the entries of a block end, and how many restart offsets stand behind them.
 #[derive(Clone, Copy)]
 pub(crate) struct Tail {
     pub(crate) end: usize,
     pub(crate) count: usize,
-}
-
-/// The fixed32 at the place.
-pub(crate) fn offset_at(text: &[u8], at: usize) -> u32
-    requires { at + 4 ≤ length text.now }
-    ensures { result ≡ from_le_bytes w32 (drop at text.now) }
-{
-    read_fixed32(text, at).unwrap_or(0)
 }
 
 // Whether the offsets at the place begin with 0 and rise.
@@ -27,12 +29,12 @@ fn are_restarts(text: &[u8], at: usize, count: usize) -> bool
     if count == 0 {
         return false;
     }
-    let mut last = offset_at(text, at);
+    let mut last = fixed32_in(text, at);
     if last != 0 {
         return false;
     }
     for index in 1..count {
-        let offset = offset_at(text, at + 4 * index);
+        let offset = fixed32_in(text, at + 4 * index);
         if offset <= last {
             return false;
         }
@@ -50,7 +52,7 @@ pub(crate) fn tail_of(text: &[u8]) -> Option<Tail>
     if text.len() < 4 {
         return None;
     }
-    let count = offset_at(text, text.len() - 4) as usize;
+    let count = fixed32_in(text, text.len() - 4) as usize;
     let behind = 4 * count + 4;
     if text.len() < behind {
         return None;
@@ -60,4 +62,36 @@ pub(crate) fn tail_of(text: &[u8]) -> Option<Tail>
         return None;
     }
     Some(Tail { end, count })
+}
+
+// Puts each offset at the end, in four bytes.
+fn push_offsets(out: &mut Bytes, offsets: &[u32]) -> Result<(), AllocError>
+    ensures { OnOk result (out.new ≡ out.old ++ flat_map fixed32 offsets.now) }
+{
+    for offset in offsets {
+        push_fixed32(out, *offset)?;
+    }
+    Ok(())
+}
+
+// Puts the restart offsets and their count at the end; a block without entries has the one restart 0.
+pub(crate) fn put_tail(out: &mut Bytes, restarts: &[u32]) -> Result<(), AllocError>
+    requires { length restarts.now < 2 ^ 32 }
+    ensures { OnOk result (out.new ≡ with_tail out.old (or_zero restarts.now)) }
+{
+    if restarts.is_empty() {
+        push_offsets(out, &[0])?;
+        return push_fixed32(out, 1);
+    }
+    push_offsets(out, restarts)?;
+    push_fixed32(out, restarts.len() as u32)
+}
+
+// How many bytes so many restart offsets and their count have.
+pub(crate) fn tail_size(restarts: usize) -> usize
+    requires { restarts ≤ 2 ^ 33 }
+    ensures size { (entries offsets : List ℕ) → length offsets ≡ restarts → length entries + result ≡ length (with_tail entries (or_zero offsets)) }
+    ensures within { result ≤ 2 ^ 36 }
+{
+    4 * restarts.max(1) + 4
 }

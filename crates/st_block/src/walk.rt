@@ -1,16 +1,15 @@
-ghost use Rattle.std.specs.Prelude.{◌≡◌, ℕ, [], ◌<◌, ◌+◌, ◌-◌, ◌*◌, ◌^◌, ◌≤◌, ◌⊎◌, Bool, IfNone, IfSome, IsTrue, List, Some, length, take, drop, slice_range};
-ghost use Rattle.std.specs.Int.{w32, from_le_bytes};
+ghost use Rattle.std.specs.Prelude.{◌≡◌, ℕ, [], ◌<◌, ◌+◌, ◌-◌, ◌*◌, ◌^◌, ◌≤◌, IfNone, IfSome, IsTrue, List, Some, length, take, slice_range};
 ghost use Rattle.st_block.specs.Block.{Cell, cell_at};
 ghost use Rattle.st_block.specs.Entry.{IsLayout, IsRead};
 ghost use Rattle.st_block.specs.BlockContents.{IsReadableAt, TakesCell, cells_at, cells_in, block_contents_in, internal_keys_rise, lower_offset};
 ghost use Rattle.st_block.specs.Search.{IsLast, IsShort, IsStart};
 
 use crate::entry::{ReadCell, head_at, read_at};
-use crate::keys::is_key_before;
+use crate::internal_key::is_key_before;
 use crate::kind::BlockKind;
 use crate::open::Layout;
-use crate::tail::offset_at;
 use st_base::{Scratch, Steps};
+use st_code::fixed32_in;
 use std::sync::ledger::Ledger;
 
 /// The entry at the place, or none at the end. Its key is put into the scratch.
@@ -68,7 +67,7 @@ fn start_of<L: Ledger>(
     let mut high = layout.restarts;
     while low + 1 < high {
         let middle = low + (high - low) / 2;
-        let at = offset_at(text, layout.end + 4 * middle) as usize;
+        let at = fixed32_in(text, layout.end + 4 * middle) as usize;
         steps.tick();
         if is_key_before(restart_key(area, at), key, number) {
             low = middle;
@@ -76,7 +75,7 @@ fn start_of<L: Ledger>(
             high = middle;
         }
     }
-    offset_at(text, layout.end + 4 * low) as usize
+    fixed32_in(text, layout.end + 4 * low) as usize
 }
 
 /// The place of the first entry that doesn't come before the key and the number, or the end. Its key is put into the

@@ -1,11 +1,10 @@
 ghost use Rattle.std.specs.Prelude.{◌≡◌, ℕ, ◌+◌, ◌-◌, ◌<◌, ◌≤◌, ◌^◌, [], ◌∷◌, ◌++◌, List, IfOk, IsTrue, ◌↔◌, OnErr, OnOk, ◌*◌, length, take, drop, nat_eq, ◌%◌, ◌==◌, if◌then◌else◌};
-ghost use Rattle.std.specs.List.{common_prefix_len, flat_map};
-ghost use Rattle.st_code.specs.Fixed.{fixed32};
-ghost use Rattle.st_code.specs.Varint.{varint};
-ghost use Rattle.st_block.specs.Written.{Appends, entry_bytes, or_zero, shared_of, with_tail};
+ghost use Rattle.std.specs.List.{common_prefix_len};
+ghost use Rattle.st_block.specs.Written.{shared_of};
 
+use crate::entry::{entry_size, push_entry, put_entry};
+use crate::tail::{put_tail, tail_size};
 use st_base::{Bytes, INTERNAL_KEY_BYTES, List, Scratch, VALUE_BYTES};
-use st_code::{push_fixed32, push_varint, varint_len};
 use std::alloc::{AllocError, Global};
 use std::marker::Model;
 
@@ -20,100 +19,6 @@ fn common_front(one: &[u8], other: &[u8]) -> usize
     index
 }
 
-// Puts three numbers at the end that have one byte each.
-fn put_short_lengths(
-    out: &mut Bytes,
-    shared: usize,
-    unshared: usize,
-    value: usize,
-) -> Result<(), AllocError>
-    requires shared { shared < 128 }
-    requires unshared { unshared < 128 }
-    requires value { value < 128 }
-    ensures ok { OnOk result (out.new ≡ out.old ++ (shared ∷ unshared ∷ value ∷ [])) }
-    ensures err { OnErr result (out.new ≡ out.old) }
-{
-    out.extend_from_slice(&[shared as u8, unshared as u8, value as u8])
-}
-
-// Puts the lengths of an entry at the end, at once where each has one byte; where memory runs out, some of them may stand
-// there.
-fn put_lengths(
-    out: &mut Bytes,
-    shared: usize,
-    unshared: usize,
-    value: usize,
-) -> Result<(), AllocError>
-    ensures ok { OnOk result (out.new ≡ out.old ++ (varint shared ++ varint unshared ++ varint value)) }
-    ensures err { OnErr result (Appends out.old out.new) }
-{
-    if shared < 128 && unshared < 128 && value < 128 {
-        return put_short_lengths(out, shared, unshared, value);
-    }
-    push_varint(out, shared as u64)?;
-    push_varint(out, unshared as u64)?;
-    push_varint(out, value as u64)
-}
-
-// Puts an entry at the end; where memory runs out, some of it may stand there.
-fn put_entry(out: &mut Bytes, shared: usize, key: &[u8], value: &[u8]) -> Result<(), AllocError>
-    requires { shared ≤ length key.now }
-    ensures ok { OnOk result (out.new ≡ out.old ++ entry_bytes shared key.now value.now) }
-    ensures err { OnErr result (Appends out.old out.new) }
-{
-    put_lengths(out, shared, key.len() - shared, value.len())?;
-    out.extend_from_slice(&key[shared..])?;
-    out.extend_from_slice(value)
-}
-
-// Puts an entry at the end, or leaves the bytes as they were.
-fn push_entry(out: &mut Bytes, shared: usize, key: &[u8], value: &[u8]) -> Result<(), AllocError>
-    requires { shared ≤ length key.now }
-    ensures ok { OnOk result (out.new ≡ out.old ++ entry_bytes shared key.now value.now) }
-    ensures err { OnErr result (out.new ≡ out.old) }
-{
-    let before = out.len();
-    match put_entry(out, shared, key, value) {
-        Ok(()) => Ok(()),
-        Err(error) => {
-            out.truncate(before);
-            Err(error)
-        }
-    }
-}
-
-// Puts each offset at the end, in four bytes.
-fn push_offsets(out: &mut Bytes, offsets: &[u32]) -> Result<(), AllocError>
-    ensures { OnOk result (out.new ≡ out.old ++ flat_map fixed32 offsets.now) }
-{
-    for offset in offsets {
-        push_fixed32(out, *offset)?;
-    }
-    Ok(())
-}
-
-// Puts the restart offsets and their count at the end; a block without entries has the one restart 0.
-fn put_tail(out: &mut Bytes, restarts: &[u32]) -> Result<(), AllocError>
-    requires { length restarts.now < 2 ^ 32 }
-    ensures { OnOk result (out.new ≡ with_tail out.old (or_zero restarts.now)) }
-{
-    if restarts.is_empty() {
-        push_offsets(out, &[0])?;
-        return push_fixed32(out, 1);
-    }
-    push_offsets(out, restarts)?;
-    push_fixed32(out, restarts.len() as u32)
-}
-
-// How many bytes so many restart offsets and their count have.
-fn tail_size(restarts: usize) -> usize
-    requires { restarts ≤ 2 ^ 33 }
-    ensures size { (entries offsets : List ℕ) → length offsets ≡ restarts → length entries + result ≡ length (with_tail entries (or_zero offsets)) }
-    ensures within { result ≤ 2 ^ 36 }
-{
-    4 * restarts.max(1) + 4
-}
-
 // How many restarts there are with the one that may be due.
 fn restarts_with(restarts: usize, count: usize, interval: usize) -> usize
     requires interval { 0 < interval }
@@ -126,21 +31,6 @@ fn restarts_with(restarts: usize, count: usize, interval: usize) -> usize
     } else {
         restarts
     }
-}
-
-// How many bytes an entry has that shares so many with the key before.
-fn entry_size(shared: usize, key: &[u8], value: &[u8]) -> usize
-    requires shared { shared ≤ length key.now }
-    requires key { length key.now ≤ 65543 }
-    requires value { length value.now ≤ 1048576 }
-    ensures size { result ≡ length (entry_bytes shared key.now value.now) }
-    ensures within { result ≤ 1114149 }
-{
-    let unshared = key.len() - shared;
-    let lengths = varint_len(shared as u64)
-        + varint_len(unshared as u64)
-        + varint_len(value.len() as u64);
-    lengths + unshared + value.len()
 }
 
 // How many bytes the next entry shares with the key before.
@@ -217,8 +107,8 @@ impl BlockWriter {
     /// Puts an entry at the end; an error leaves the writer as it was. What `finish` then gives is to have fewer than 2^32
     /// bytes.
     pub fn add(&mut self, key: &[u8], value: &[u8]) -> Result<(), AllocError>
-        requires key { length key.now ≤ 65543 }
-        requires value { length value.now ≤ 1048576 }
+        requires key { length key.now ≤ INTERNAL_KEY_BYTES }
+        requires value { length value.now ≤ VALUE_BYTES }
         requires room { length (finished_block (pair_added self.old key.now value.now)) < 2 ^ 32 }
         ensures ok { OnOk result (self.new ≡ pair_added self.old key.now value.now) }
         ensures err { OnErr result (self.new ≡ self.old) }
@@ -243,10 +133,10 @@ impl BlockWriter {
     /// Whether the entry may be added: its key and value are within their limits, and what `finish` then gives has fewer than
     /// 2^32 bytes. It may be false from 64 bytes below that on.
     pub fn has_room(&self, key: &[u8], value: &[u8]) -> bool
-        ensures key { IsTrue result → length key.now ≤ 65543 }
-        ensures value { IsTrue result → length value.now ≤ 1048576 }
+        ensures key { IsTrue result → length key.now ≤ INTERNAL_KEY_BYTES }
+        ensures value { IsTrue result → length value.now ≤ VALUE_BYTES }
         ensures room { IsTrue result → length (finished_block (pair_added self.now key.now value.now)) < 2 ^ 32 }
-        ensures roomy { length key.now ≤ 65543 → length value.now ≤ 1048576
+        ensures roomy { length key.now ≤ INTERNAL_KEY_BYTES → length value.now ≤ VALUE_BYTES
             → length self.now.entries + length key.now + length value.now + 4 * length self.now.restarts + 64 < 2 ^ 32 → IsTrue result }
     {
         key.len() <= INTERNAL_KEY_BYTES
@@ -297,8 +187,8 @@ impl BlockWriter {
 
     /// How many bytes the entries have with this one more.
     pub fn size_with(&self, key: &[u8], value: &[u8]) -> usize
-        requires key { length key.now ≤ 65543 }
-        requires value { length value.now ≤ 1048576 }
+        requires key { length key.now ≤ INTERNAL_KEY_BYTES }
+        requires value { length value.now ≤ VALUE_BYTES }
         ensures size { result ≡ length (pair_added self.now key.now value.now).entries }
         ensures within { result ≤ 2 ^ 33 }
     {
@@ -308,8 +198,8 @@ impl BlockWriter {
 
     /// How many bytes `finish` gives with this entry more.
     pub fn finished_size_with(&self, key: &[u8], value: &[u8]) -> usize
-        requires key { length key.now ≤ 65543 }
-        requires value { length value.now ≤ 1048576 }
+        requires key { length key.now ≤ INTERNAL_KEY_BYTES }
+        requires value { length value.now ≤ VALUE_BYTES }
         ensures size { result ≡ length (finished_block (pair_added self.now key.now value.now)) }
         ensures within { result ≤ 2 ^ 37 }
     {
@@ -327,8 +217,8 @@ impl BlockWriter {
 
     /// The block of what was added and this entry more, which is not added. It is to have fewer than 2^32 bytes.
     pub fn finish_with(&self, alloc: Global, key: &[u8], value: &[u8]) -> Result<Bytes, AllocError>
-        requires key { length key.now ≤ 65543 }
-        requires value { length value.now ≤ 1048576 }
+        requires key { length key.now ≤ INTERNAL_KEY_BYTES }
+        requires value { length value.now ≤ VALUE_BYTES }
         requires room { length (finished_block (pair_added self.now key.now value.now)) < 2 ^ 32 }
         ensures { IfOk result (λ bytes. bytes ≡ finished_block (pair_added self.now key.now value.now)) }
     {

@@ -1,4 +1,5 @@
-use Rattle.std.proofs.Common.{◌++◌, ◌+◌, ◌-◌, length, take, Less, Greater, arith}
+use Rattle.std.proofs.Common.{◌≡◌, ℕ, ◌++◌, ◌+◌, ◌-◌, length, take, drop, Less, Greater, sym, ap, ◌∙◌, arith}
+use Rattle.std.specs.Int.{w64, from_le_bytes}
 use Rattle.st_block.proofs.Fronts.{length_new, internal_is, internal_tied}
 use Rattle.st_block.proofs.keys.is_internal_after.Goals as goal
 
@@ -10,8 +11,9 @@ returns-in-Less c =
 pub returns-in-Equal : goal.returns-in-Equal
 returns-in-Equal c =
     let new = take c.args.shared c.args.before.now ++ c.args.others.now in
-    internal_tied c.args.before.now new (c.args.shared + length c.args.others.now - 8) c.packed_new.result c.packed.result (omega (arith, length_new c.args.before.now c.args.others.now c.args.shared c.requires.shared)) c.in-Equal.ensures
-    c.packed_new.ensures c.packed.ensures
+    let at : c.args.shared + length c.args.others.now - 8 ≡ length new - 8 = omega (arith, length_new c.args.before.now c.args.others.now c.args.shared c.requires.shared) in
+    internal_tied c.args.before.now new (c.args.shared + length c.args.others.now - 8) c.word_at.result c.packed.result (sym at) c.in-Equal.ensures
+    (c.word_at.ensures ∙ ap (λ (k : ℕ). from_le_bytes w64 (drop k new)) at) c.packed.ensures
 
 pub returns-in-Greater : goal.returns-in-Greater
 returns-in-Greater c =

@@ -4,4 +4,4 @@ use Rattle.std.proofs.Common.{arith}
 
 pub loop-index-preserved : goal.loop-index-preserved
 loop-index-preserved c =
-    rises_more c.args.text.now c.args.at c.args.count c.loop-index.index c.loop-index.last c.offset_at-offset.result _ (omega arith) c.offset_at-offset.ensures (omega arith) c.loop-index.invariant
+    rises_more c.args.text.now c.args.at c.args.count c.loop-index.index c.loop-index.last c.fixed32_in-offset.result _ (omega arith) c.fixed32_in-offset.ensures (omega arith) c.loop-index.invariant

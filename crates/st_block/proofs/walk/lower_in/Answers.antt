@@ -1,6 +1,6 @@
 use Rattle.std.proofs.Common.{rules, refl, sym, ap, ◌∙◌, length, arith}
 use Rattle.st_block.specs.BlockContents.{cells_from_place}
-use Rattle.st_block.proofs.Counting.{short, none_read}
+use Rattle.st_block.proofs.Counting.{short}
 use Rattle.st_block.proofs.Searching.{begins, skipped, stays}
 use Rattle.st_block.proofs.walk.lower_in.Goals as goal
 

@@ -30,7 +30,7 @@ loop-low-preserved-then-is_key_before g c =
       within = omega arith;
       top = i.top;
       start = start_more c.args.kind c.args.text.now c.args.layout c.requires.lies c.requires.some c.args.key.now c.args.number middle
-          c.offset_at-at.result c.restart_key.result.now (omega (arith, i.top)) c.offset_at-at.ensures c.restart_key.ensures (sym c.if-is_key_before.ensures);
+          c.fixed32_in-at.result c.restart_key.result.now (omega (arith, i.top)) c.fixed32_in-at.ensures c.restart_key.ensures (sym c.if-is_key_before.ensures);
       after = i.after;
       counted = omega (arith, c.tick.ensures, i.counted);
       halved = subst (λ (k : ℕ). 2 ^ k ≤ 2 * c.args.layout.restarts + 1) (sym more) (halves_few (c.loop-low.steps - before) (c.loop-low.high - c.loop-low.low - 1) c.args.layout.restarts (omega arith) i.still);
@@ -48,7 +48,7 @@ loop-low-preserved g c =
       top = omega (arith, i.top);
       start = i.start;
       after = inr (stays_behind c.args.kind c.args.text.now c.args.layout c.requires.lies c.requires.some c.args.key.now c.args.number middle
-          c.offset_at-at.result c.restart_key.result.now (omega (arith, i.top)) c.offset_at-at.ensures c.restart_key.ensures (sym c.if-is_key_before.ensures));
+          c.fixed32_in-at.result c.restart_key.result.now (omega (arith, i.top)) c.fixed32_in-at.ensures c.restart_key.ensures (sym c.if-is_key_before.ensures));
       counted = omega (arith, c.tick.ensures, i.counted);
       halved = subst (λ (k : ℕ). 2 ^ k ≤ 2 * c.args.layout.restarts + 1) (sym more) (halves_few (c.loop-low.steps - before) (c.loop-low.high - c.loop-low.low - 1) c.args.layout.restarts (omega arith) i.still);
       still = subst (λ (k : ℕ). 2 ^ k * (middle - c.loop-low.low - 1) ≤ c.args.layout.restarts) (sym more) (halves (c.loop-low.steps - before) (c.loop-low.high - c.loop-low.low - 1) (middle - c.loop-low.low - 1) c.args.layout.restarts (omega arith) i.still);
@@ -60,7 +60,7 @@ returns-clause-last g c =
     let next : c.loop-low.high ≡ suc c.loop-low.low = omega (arith, i.within, c.loop-low-test.false) in
     record {
       low = c.loop-low.low;
-      offset = c.offset_at.ensures;
+      place = c.fixed32_in.ensures;
       within = omega (arith, i.within, i.top);
       after = elim i.after [
         | inl end ↦ inl (sym next ∙ end)

@@ -1,7 +1,7 @@
 use Rattle.std.proofs.Common.{ℕ, ◌≡◌, List, ◌++◌, subst}
 use Rattle.std.specs.Prelude.{OnOk}
 use Rattle.st_block.proofs.Writers.{short_lengths}
-use Rattle.st_block.proofs.writer.put_lengths.Goals as goal
+use Rattle.st_block.proofs.entry.put_lengths.Goals as goal
 
 pub returns-then-value-lt128-clause-ok : goal.returns-then-value-lt128-clause-ok
 returns-then-value-lt128-clause-ok c =
