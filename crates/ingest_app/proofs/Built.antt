@@ -9,7 +9,7 @@ use Rattle.st_table.specs.Entries.{may_have}
 use Rattle.st_table.specs.Footer.{greatest_size}
 use Rattle.st_table.specs.IsTable.{IsTable}
 use Rattle.st_table.specs.Table.{first_fault}
-use Rattle.st_table.specs.Written.{MayBeTable, MayPut, written_table}
+use Rattle.table_writer.specs.Written.{MayBeTable, MayPut, written_table}
 use Rattle.st_table.specs.declared.kind.TableKind.TheVariants.{External}
 use Rattle.build_text.specs.declared.fault.BuildFault.{BuildFault}
 use Rattle.build_text.specs.declared.fault.BuildFault.TheVariants.{TooLarge, NotRising}

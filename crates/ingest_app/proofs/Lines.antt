@@ -6,7 +6,7 @@ use Rattle.st_base.specs.Rows.{last_key}
 use Rattle.st_base.specs.declared.entry.Entry.{Entry}
 use Rattle.st_base.specs.declared.entry.Mark.{Mark}
 use Rattle.st_table.specs.Footer.{greatest_size}
-use Rattle.st_table.specs.Written.{written_table}
+use Rattle.table_writer.specs.Written.{written_table}
 use Rattle.st_table.specs.declared.kind.TableKind.TheVariants.{External}
 use Rattle.sst_writer.specs.Sst.{rises_to}
 use Rattle.sst_writer.specs.Sst as sst

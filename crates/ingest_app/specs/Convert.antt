@@ -12,7 +12,7 @@ use Rattle.st_stream.specs.Sink.{SinkTold}
 use Rattle.st_table.specs.Footer.{greatest_size}
 use Rattle.st_table.specs.IsTable.{IsTable}
 use Rattle.st_table.specs.Table.{first_fault}
-use Rattle.st_table.specs.Written.{written_table}
+use Rattle.table_writer.specs.Written.{written_table}
 use Rattle.st_table.specs.declared.kind.TableKind.TheVariants.{External}
 use Rattle.sst_writer.specs.declared.fault.FinishFault.{FinishFault}
 use Rattle.sst_writer.specs.declared.fault.FinishFault.TheVariants as finish

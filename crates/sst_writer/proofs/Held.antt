@@ -15,15 +15,18 @@ use Rattle.st_table.specs.Entries.{is_behind, last_entry}
 use Rattle.st_table.specs.Footer.{greatest_size}
 use Rattle.st_table.specs.IsTable.{IsTable}
 use Rattle.st_table.specs.Table.{table_of}
-use Rattle.st_table.specs.Written.{HoldsEntries, MayBeTable, MayPut, Writer, entry_added, finished_table, internal_key, stored, value_under, with_closed, with_open, written_table}
+use Rattle.table_writer.specs.Writer.{HoldsEntries, Writer, entry_added, finished_table, with_closed, with_open}
+use Rattle.table_writer.specs.Written.{MayBeTable, MayPut, written_table}
+use Rattle.st_block.specs.InternalKey.{internal_key, value_under}
+use Rattle.st_table.specs.Stored.{stored}
 use Rattle.st_table.specs.declared.kind.TableKind.{TableKind}
 use Rattle.st_table.specs.declared.kind.TableKind.TheVariants.{External}
 use Rattle.st_table.proofs.Behind.{order_more}
-use Rattle.st_table.proofs.Holding.{table_holds_more, table_written}
-use Rattle.st_table.proofs.Sizes.{ending_short, table_length}
+use Rattle.table_writer.proofs.Holding.{table_holds_more, table_written}
+use Rattle.table_writer.proofs.Sizes.{ending_short, table_length}
 use Rattle.st_table.proofs.Tables.{is_table}
-use Rattle.st_table.specs.declared.writer.AddFault.{AddFault}
-use Rattle.st_table.specs.declared.writer.AddFault.TheVariants as add
+use Rattle.table_writer.specs.declared.fault.AddFault.{AddFault}
+use Rattle.table_writer.specs.declared.fault.AddFault.TheVariants as add
 use Rattle.sst_writer.specs.Sst.{IsSst, entries_or_none, entry_with, held, is_above, rises_to, writer_fault}
 use Rattle.sst_writer.specs.declared.fault.WriterFault.{WriterFault}
 use Rattle.sst_writer.specs.declared.fault.WriterFault.TheVariants.{TooLarge, OutOfMemory}

@@ -6,10 +6,11 @@ use Rattle.st_base.specs.declared.entry.Entry.{Entry}
 use Rattle.st_base.specs.declared.entry.Mark.{Mark}
 use Rattle.st_base.specs.declared.faults.TableFault.{TableFault}
 use Rattle.st_table.specs.Table.{table_of}
-use Rattle.st_table.specs.Written.{HoldsEntries, MayBeTable, Writer, finished_table}
+use Rattle.table_writer.specs.Writer.{HoldsEntries, Writer, finished_table}
+use Rattle.table_writer.specs.Written.{MayBeTable}
 use Rattle.st_table.specs.declared.kind.TableKind.TheVariants.{External}
-use Rattle.st_table.specs.declared.writer.AddFault.{AddFault}
-use Rattle.st_table.specs.declared.writer.AddFault.TheVariants as add
+use Rattle.table_writer.specs.declared.fault.AddFault.{AddFault}
+use Rattle.table_writer.specs.declared.fault.AddFault.TheVariants as add
 use Rattle.sst_writer.specs.declared.fault.WriterFault.{WriterFault}
 use Rattle.sst_writer.specs.declared.fault.WriterFault.TheVariants.{TooLarge, OutOfMemory}
 

@@ -1,7 +1,7 @@
 ghost use Rattle.std.specs.Prelude.{◌≡◌};
 ghost use Rattle.sst_writer.specs.Sst.{writer_fault};
 
-use st_table::AddFault;
+use table_writer::AddFault;
 
 /// Why an entry isn't added to a table.
 #[derive(Drop, PartialEq)]

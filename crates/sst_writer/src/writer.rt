@@ -3,15 +3,16 @@ ghost use Rattle.st_base.specs.Rows.{FitsMark, mark_of};
 ghost use Rattle.st_base.specs.declared.entry.Mark.TheVariants.{Put, Gone};
 ghost use Rattle.st_table.specs.Footer.{greatest_size};
 ghost use Rattle.st_table.specs.IsTable.{IsTable};
-ghost use Rattle.st_table.specs.Written.{MayBeTable, written_table};
+ghost use Rattle.table_writer.specs.Written.{MayBeTable, written_table};
 ghost use Rattle.st_table.specs.declared.kind.TableKind.TheVariants.{External};
 ghost use Rattle.sst_writer.specs.Sst.{entry_with, rises_to};
 
 use crate::fault::{FinishFault, WriterFault};
 use st_base::{Bytes, EntryRef, KEY_BYTES, Key, MarkRef, Scratch, Value};
-use st_table::{TableKind, TableWriter, written_table_opens};
+use st_table::TableKind;
 use std::alloc::{AllocError, Global};
 use std::marker::Model;
+use table_writer::{TableWriter, written_table_opens};
 
 /// A writer of one external table, seen as the list of its entries: those that were added, in order, all under the sequence
 /// number 0.

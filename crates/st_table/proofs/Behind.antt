@@ -9,8 +9,8 @@ use Rattle.st_base.specs.Rows.{AreRows, Fits, FitsMark}
 use Rattle.st_base.specs.declared.entry.Entry.{Entry}
 use Rattle.st_base.specs.declared.entry.Mark.TheVariants.{Put, Gone}
 use Rattle.st_base.specs.declared.faults.TableFault.{TableFault}
-use Rattle.st_block.specs.InternalKey.{user_key}
-use Rattle.st_table.specs.Entries.{entry_fault, entry_under, is_behind, is_kind, kind_of, last_entry, mark_under, may_have, number_of}
+use Rattle.st_block.specs.InternalKey.{entry_under, is_kind, kind_of, mark_under, number_of, user_key}
+use Rattle.st_table.specs.Entries.{entry_fault, is_behind, last_entry, may_have}
 use Rattle.st_table.specs.declared.kind.TableKind.{TableKind}
 
 -- ---- order

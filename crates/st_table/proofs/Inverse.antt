@@ -11,13 +11,15 @@ use Rattle.st_base.specs.declared.faults.TableFault.TheVariants.{Checksum, Compa
 use Rattle.st_block.specs.Block.{Cell, block_of, entries_end, restarts_of}
 use Rattle.st_block.specs.BlockContents.{BlockContents}
 use Rattle.st_block.specs.declared.kind.BlockKind.{BlockKind}
-use Rattle.st_table.specs.Footer.{checksum_of, exactly, footer_handle, footer_of, greatest_size, handle_at, handles_of, lies, lying, magic, magic_of, value_handle, version_of}
+use Rattle.st_table.specs.Footer.{checksum_of, footer_of, greatest_size, handles_of, magic_of, version_of}
+use Rattle.st_table.specs.Handle.{exactly, footer_handle, handle_at, lies, lying, value_handle}
 use Rattle.st_table.specs.IsTable.{AreProperties, IsFooter, IsMetaindex, IsStored, IsVersioned}
 use Rattle.st_table.specs.Metaindex.{named_in, properties_at, properties_handle, properties_name, range_del_name}
 use Rattle.st_table.specs.Properties.{bytewise, compared, comparator_fault, comparator_name, fixed32_value, index_type_fault, index_type_name, indexed, or_fault, properties_fault, property, typed, version_fault, version_name, versioned}
 use Rattle.st_table.specs.Steps.{◌>>=◌, unless}
 use Rattle.st_table.specs.Stored.{block_at, compression, contents_at, found_sum, opened_block, stored_sum}
 use Rattle.st_table.specs.declared.footer.Footer.{Footer}
+use Rattle.st_table.specs.declared.footer.TheConstants.{MAGIC}
 use Rattle.st_table.specs.declared.handle.Handle.{Handle}
 use Rattle.st_table.specs.declared.kind.TableKind.{TableKind}
 use Rattle.st_table.specs.declared.kind.TableKind.TheVariants.{External, Own}
@@ -95,7 +97,7 @@ unfolding footer_of handles_of
 footer_ok kind bytes footer e =
     let a = guard_ok (ltb (greatest_size kind) (length bytes)) TooLarge _ footer e in
     let b = guard_ok (ltb (length bytes) 53) Short _ footer a.1 in
-    let c = guard_ok (not (eqb (magic_of bytes) magic)) Magic _ footer b.1 in
+    let c = guard_ok (not (eqb (magic_of bytes) MAGIC)) Magic _ footer b.1 in
     let d = guard_ok (not (eqb (version_of bytes) 2)) (Version (version_of bytes)) _ footer c.1 in
     let f = guard_ok (not (eqb (checksum_of bytes) 1)) (Checksum (checksum_of bytes)) _ footer d.1 in
     let m = bind_ok (footer_handle bytes (length bytes - 52)) _ footer f.1 in
@@ -120,7 +122,7 @@ unfolding footer_of handles_of
 ok_footer kind bytes footer size is ml il =
     skip (ltb (greatest_size kind) (length bytes)) TooLarge _ footer (le-ltb _ _ size)
     (skip (ltb (length bytes) 53) Short _ footer (le-ltb _ _ is.long)
-    (skip (not (eqb (magic_of bytes) magic)) Magic _ footer (true_not _ (eq-eqb _ _ is.magic_is))
+    (skip (not (eqb (magic_of bytes) MAGIC)) Magic _ footer (true_not _ (eq-eqb _ _ is.magic_is))
     (skip (not (eqb (version_of bytes) 2)) (Version (version_of bytes)) _ footer (true_not _ (eq-eqb _ _ is.version_is))
     (skip (not (eqb (checksum_of bytes) 1)) (Checksum (checksum_of bytes)) _ footer (true_not _ (eq-eqb _ _ is.checksum_is))
     (ok_bind (footer_handle bytes (length bytes - 52)) _ (footer.metaindex, is.index_at) footer (here (length bytes - 52) (footer.metaindex, is.index_at) is.metaindex_is ml)

@@ -1,11 +1,7 @@
 pub mod Acting
 pub mod Arena
 pub mod Behind
-pub mod Grouped
-pub mod Holding
 pub mod Inverse
+pub mod Lengths
 pub mod Reread
-pub mod Sizes
 pub mod Tables
-pub mod WrittenOpens
-pub mod Writing

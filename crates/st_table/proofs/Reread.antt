@@ -14,13 +14,13 @@ use Rattle.st_code.specs.Varint.{if_below, placed, spelled, varint, varint64_at}
 use Rattle.st_block.specs.Block.{Cell, block_of, entries_end, restarts_of}
 use Rattle.st_block.specs.BlockContents.{BlockContents}
 use Rattle.st_block.specs.declared.kind.BlockKind.{BlockKind}
-use Rattle.st_table.specs.Footer.{handle_at, magic}
+use Rattle.st_table.specs.Handle.{handle_at, handle_bytes}
+use Rattle.st_table.specs.Footer.{footer_bytes}
 use Rattle.st_table.specs.IsTable.{IsFooter, IsStored}
-use Rattle.st_table.specs.Stored.{contents_at, found_sum}
-use Rattle.st_table.specs.Written.{footer_bytes, handle_bytes, stored}
-use Rattle.st_table.specs.declared.footer.Footer.{Footer}
+use Rattle.st_table.specs.Stored.{contents_at, found_sum, stored}
+use Rattle.st_table.specs.declared.footer.TheConstants.{MAGIC}
 use Rattle.st_table.specs.declared.handle.Handle.{Handle}
-use Rattle.st_table.proofs.Sizes.{head_short, zeros_length}
+use Rattle.st_table.proofs.Lengths.{head_short, zeros_length}
 
 -- ---- places
 
@@ -65,16 +65,16 @@ handle_whole h o s =
 
 -- ---- the footer
 
-pub footer_here : (bytes : List ℕ) (at : ℕ) (footer : Footer) → drop at bytes ≡ footer_bytes footer.metaindex footer.index → at + 53 ≡ length bytes
-    → footer.metaindex.offset < 2 ^ 64 → footer.metaindex.size < 2 ^ 64 → footer.index.offset < 2 ^ 64 → footer.index.size < 2 ^ 64 → IsFooter bytes footer
-footer_here bytes at footer e room mo ms io is =
-    let m = handle_bytes footer.metaindex in
-    let i = handle_bytes footer.index in
+pub footer_here : (bytes : List ℕ) (at : ℕ) (metaindex index : Handle) → drop at bytes ≡ footer_bytes metaindex index → at + 53 ≡ length bytes
+    → metaindex.offset < 2 ^ 64 → metaindex.size < 2 ^ 64 → index.offset < 2 ^ 64 → index.size < 2 ^ 64 → IsFooter bytes (record { metaindex = metaindex; index = index })
+footer_here bytes at metaindex index e room mo ms io is =
+    let m = handle_bytes metaindex in
+    let i = handle_bytes index in
     let head = 1 ∷ m ++ i in
     let zeros : List ℕ = replicate (41 - length head) 0 in
     let version = fixed32 2 in
-    let number = fixed64 magic in
-    let short = head_short footer.metaindex footer.index in
+    let number = fixed64 MAGIC in
+    let short = head_short metaindex index in
     let size : length (head ++ zeros) ≡ 41 = omega (arith, length-append head zeros, zeros_length (41 - length head), short) in
     let all : drop at bytes ≡ (head ++ zeros) ++ (version ++ number) = e ∙ append_assoc (head ++ zeros) version number in
     let at-version : drop (at + 41) bytes ≡ version ++ number = step bytes (head ++ zeros) (version ++ number) at 41 all size in
@@ -86,13 +86,13 @@ footer_here bytes at footer e room mo ms io is =
     let at-index : drop (at + 1 + length m) bytes ≡ i ++ (zeros ++ (version ++ number)) = step bytes m rest (at + 1) (length m) at-metaindex refl in
     record {
       long = omega arith;
-      magic_is = ap (λ (k : ℕ). from_le_bytes w64 (drop k bytes)) (let k : length bytes - 8 ≡ at + 41 + 4 = omega arith in k) ∙ ap (λ (l : List ℕ). from_le_bytes w64 l) at-number ∙ from_le_bytes-to_le_bytes_8 magic (omega arith);
+      magic_is = ap (λ (k : ℕ). from_le_bytes w64 (drop k bytes)) (let k : length bytes - 8 ≡ at + 41 + 4 = omega arith in k) ∙ ap (λ (l : List ℕ). from_le_bytes w64 l) at-number ∙ from_le_bytes-to_le_bytes_8 MAGIC (omega arith);
       version_is = ap (λ (k : ℕ). from_le_bytes w32 (drop k bytes)) (let k : length bytes - 12 ≡ at + 41 = omega arith in k) ∙ ap (λ (l : List ℕ). from_le_bytes w32 l) at-version ∙ from_le_bytes-to_le_bytes_4 2 (omega arith);
       checksum_is = ap (λ (k : ℕ). slice_index bytes k) (let k : length bytes - 53 ≡ at = omega arith in k) ∙ byte_at bytes at 1 (m ++ rest) first;
       index_at = at + 1 + length m;
       behind = at + 1 + length m + length i;
-      metaindex_is = ap (λ (k : ℕ). handle_at bytes k) (let k : length bytes - 52 ≡ at + 1 = omega arith in k) ∙ handle_here bytes rest (at + 1) footer.metaindex mo ms at-metaindex;
-      index_is = handle_here bytes (zeros ++ (version ++ number)) (at + 1 + length m) footer.index io is at-index;
+      metaindex_is = ap (λ (k : ℕ). handle_at bytes k) (let k : length bytes - 52 ≡ at + 1 = omega arith in k) ∙ handle_here bytes rest (at + 1) metaindex mo ms at-metaindex;
+      index_is = handle_here bytes (zeros ++ (version ++ number)) (at + 1 + length m) index io is at-index;
     }
 
 -- ---- stored blocks

@@ -11,12 +11,13 @@ use Rattle.st_base.specs.declared.entry.Entry.{Entry}
 use Rattle.st_base.specs.declared.faults.TableFault.{TableFault}
 use Rattle.st_base.specs.declared.faults.TableFault.TheVariants.{Index as IndexFault, Kind, Number, Order, TooLarge}
 use Rattle.st_block.specs.Block.{Cell}
-use Rattle.st_block.specs.InternalKey.{internal_cmp, user_key}
+use Rattle.st_block.specs.InternalKey.{entry_under, internal_cmp, is_kind, kind_of, number_of, user_key}
 use Rattle.st_block.specs.BlockContents.{BlockContents}
 use Rattle.st_block.specs.declared.kind.BlockKind.TheVariants.{Data, Index, Plain}
 use Rattle.st_table.specs.DataBlocks.{data_of, first_cell_key, last_cell_key, parted, parts, with_block, with_blocks}
-use Rattle.st_table.specs.Entries.{entry_fault, entry_under, is_behind, is_kind, kind_of, last_entry, may_have, number_of, with_entries, with_cell_entry}
-use Rattle.st_table.specs.Footer.{footer_of, value_handle}
+use Rattle.st_table.specs.Entries.{entry_fault, is_behind, last_entry, may_have, with_entries, with_cell_entry}
+use Rattle.st_table.specs.Footer.{footer_of}
+use Rattle.st_table.specs.Handle.{value_handle}
 use Rattle.st_table.specs.IsTable.{AreDataBlocks, IsDataBlock, IsEntry, IsTable, entries_under, joined}
 use Rattle.st_table.specs.Metaindex.{properties_handle, value_offset}
 use Rattle.st_table.specs.Properties.{properties_fault}

@@ -9,7 +9,7 @@ use Rattle.st_block.specs.InternalKey.{internal_cmp}
 use Rattle.st_block.specs.BlockContents.{BlockContents}
 use Rattle.st_block.specs.declared.kind.BlockKind.TheVariants.{Data}
 use Rattle.st_table.specs.Entries.{with_entries}
-use Rattle.st_table.specs.Footer.{value_handle}
+use Rattle.st_table.specs.Handle.{value_handle}
 use Rattle.st_table.specs.Metaindex.{value_offset}
 use Rattle.st_table.specs.Steps.{◌>>=◌}
 use Rattle.st_table.specs.Stored.{block_at}

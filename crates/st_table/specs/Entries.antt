@@ -1,34 +1,15 @@
 -- Entries of data blocks: an internal key with a sequence number and a kind, and a value.
-use Rattle.std.specs.Prelude.{ℕ, ◌-◌, ◌/◌, ◌%◌, Bool, true, not, ◌&&◌, ◌==◌, nat_lt, List, [], ◌∷◌, ◌++◌, length, slice_get, Option, Some, None, Result, Ok, if◌then◌else◌}
+use Rattle.std.specs.Prelude.{ℕ, ◌-◌, Bool, true, not, ◌==◌, nat_lt, List, [], ◌∷◌, ◌++◌, length, slice_get, Option, Some, None, Result, Ok, if◌then◌else◌}
 use Rattle.st_base.specs.Order.{is_before}
 use Rattle.st_base.specs.declared.entry.Entry.{Entry}
-use Rattle.st_base.specs.declared.entry.Mark.{Mark}
-use Rattle.st_base.specs.declared.entry.Mark.TheVariants.{Put, Gone}
 use Rattle.st_base.specs.declared.faults.TableFault.{TableFault}
 use Rattle.st_base.specs.declared.faults.TableFault.TheVariants.{Kind, Number, TooLarge, Order}
+use Rattle.st_base.specs.declared.limits.TheConstants.{VALUE_BYTES}
 use Rattle.st_block.specs.Block.{Cell}
-use Rattle.st_block.specs.InternalKey.{packed, user_key}
+use Rattle.st_block.specs.InternalKey.{entry_under, is_kind, kind_of, number_of, user_key}
 use Rattle.st_table.specs.Steps.{◌>>=◌, unless}
 use Rattle.st_table.specs.declared.kind.TableKind.{TableKind}
 use Rattle.st_table.specs.declared.kind.TableKind.TheVariants.{External, Own}
-
--- the sequence number and the kind that are packed in an internal key: kind 0 is a tombstone, 1 a value
-abbrev pub number_of : List ℕ → ℕ
-number_of internal = packed internal / 256
-
-abbrev pub kind_of : List ℕ → ℕ
-kind_of internal = packed internal % 256
-
--- the entry that an internal key and a value are
-abbrev pub mark_under : ℕ → List ℕ → Mark
-mark_under kind value = if kind == 0 then Gone else Put value
-
-abbrev pub entry_under : List ℕ → List ℕ → Entry
-entry_under internal value = record { key = user_key internal; number = number_of internal; mark = mark_under (kind_of internal) value }
-
--- a kind is at most 1, and a tombstone has no value
-abbrev pub is_kind : ℕ → List ℕ → Bool
-is_kind kind value = nat_lt kind 2 && not ((kind == 0) && nat_lt 0 (length value))
 
 -- entries of external tables have the sequence number 0
 abbrev pub may_have : TableKind → ℕ → Bool
@@ -46,7 +27,7 @@ abbrev pub entry_fault : TableKind → ℕ → Option Entry → List ℕ → Lis
 entry_fault kind index before internal value =
     if not (is_kind (kind_of internal) value) then Some (Kind index (kind_of internal))
     else (if not (may_have kind (number_of internal)) then Some (Number index (number_of internal))
-    else (if nat_lt 1048576 (length value) then Some TooLarge
+    else (if nat_lt VALUE_BYTES (length value) then Some TooLarge
     else (if not (is_behind before (user_key internal) (number_of internal)) then Some (Order index)
     else None)))
 

@@ -4,28 +4,33 @@ use Rattle.std.specs.List.{AllByRecursion, flat_map}
 use Rattle.std.specs.Ordering.{is_lt, is_le}
 use Rattle.st_base.specs.Order.{in_order}
 use Rattle.st_base.specs.declared.entry.Entry.{Entry}
+use Rattle.st_base.specs.declared.limits.TheConstants.{VALUE_BYTES}
 use Rattle.st_block.specs.Block.{Cell, block_of, entries_end, restarts_of}
-use Rattle.st_block.specs.InternalKey.{internal_cmp}
+use Rattle.st_block.specs.InternalKey.{entry_under, internal_cmp, is_kind, kind_of, number_of}
 use Rattle.st_block.specs.BlockContents.{BlockContents}
 use Rattle.st_block.specs.declared.kind.BlockKind.{BlockKind}
 use Rattle.st_block.specs.declared.kind.BlockKind.TheVariants.{Data, Index, Plain}
 use Rattle.st_table.specs.DataBlocks.{first_cell_key, last_cell_key}
-use Rattle.st_table.specs.Entries.{entry_under, is_kind, kind_of, may_have, number_of}
-use Rattle.st_table.specs.Footer.{checksum_of, greatest_size, handle_at, magic, magic_of, version_of}
+use Rattle.st_table.specs.Entries.{may_have}
+use Rattle.st_table.specs.Footer.{checksum_of, greatest_size, magic_of, version_of}
+use Rattle.st_table.specs.Handle.{handle_at}
 use Rattle.st_table.specs.Metaindex.{named_in, properties_name, range_del_name}
 use Rattle.st_table.specs.Properties.{bytewise, comparator_name, fixed32_value, index_type_name, property, version_name}
 use Rattle.st_table.specs.Stored.{compression, contents_at, found_sum, stored_sum}
 use Rattle.st_table.specs.declared.footer.Footer.{Footer}
+use Rattle.st_table.specs.declared.footer.TheConstants.{CHECKSUM_TYPE, FOOTER_BYTES, FORMAT_VERSION, MAGIC}
 use Rattle.st_table.specs.declared.handle.Handle.{Handle}
 use Rattle.st_table.specs.declared.kind.TableKind.{TableKind}
 use Rattle.st_table.specs.declared.kind.TableKind.TheVariants.{External, Own}
+use Rattle.st_table.specs.declared.properties.TheConstants.{EXTERNAL_VERSION}
+use Rattle.st_table.specs.declared.stored.TheConstants.{NO_COMPRESSION, TRAILER_BYTES}
 
 -- the last 53 bytes: checksum type 1, two handles one behind the other, version 2, the magic number
 pub record IsFooter (bytes : List ℕ) (footer : Footer) : Type 0 where
-  pub long : 53 ≤ length bytes
-  pub magic_is : magic_of bytes ≡ magic
-  pub version_is : version_of bytes ≡ 2
-  pub checksum_is : checksum_of bytes ≡ 1
+  pub long : FOOTER_BYTES ≤ length bytes
+  pub magic_is : magic_of bytes ≡ MAGIC
+  pub version_is : version_of bytes ≡ FORMAT_VERSION
+  pub checksum_is : checksum_of bytes ≡ CHECKSUM_TYPE
   pub index_at : ℕ
   pub behind : ℕ
   pub metaindex_is : handle_at bytes (length bytes - 52) ≡ Some (footer.metaindex, index_at)
@@ -33,8 +38,8 @@ pub record IsFooter (bytes : List ℕ) (footer : Footer) : Type 0 where
 
 -- a block of a kind stands where the handle says, before the footer, not compressed and under its sum
 pub record IsStored (bytes : List ℕ) (kind : BlockKind) (handle : Handle) (block : BlockContents) : Type 0 where
-  pub inside : handle.offset + handle.size + 5 ≤ length bytes - 53
-  pub uncompressed : compression bytes handle ≡ 0
+  pub inside : handle.offset + handle.size + TRAILER_BYTES ≤ length bytes - FOOTER_BYTES
+  pub uncompressed : compression bytes handle ≡ NO_COMPRESSION
   pub sum : stored_sum bytes handle ≡ found_sum bytes handle
   pub cells_are : block_of kind (contents_at bytes handle) ≡ Ok block.cells
   pub end_is : block.end ≡ entries_end (contents_at bytes handle)
@@ -49,9 +54,9 @@ pub record IsMetaindex (metaindex : BlockContents) (properties : Handle) : Type 
   pub found : named_in properties_name metaindex ≡ Some (at, value)
   pub handle_is : handle_at value 0 ≡ Some (properties, length value)
 
--- an external table has the version 2 of external files; a comparator is the bytewise one, and an index type 0
+-- an external table has the known version of external files; a comparator is the bytewise one, and an index type 0
 abbrev pub IsVersioned : TableKind → BlockContents → Type 0
-IsVersioned External properties = option_and_then fixed32_value (property version_name properties) ≡ Some 2
+IsVersioned External properties = option_and_then fixed32_value (property version_name properties) ≡ Some EXTERNAL_VERSION
 IsVersioned Own properties = Unit {0}
 
 pub record AreProperties (kind : TableKind) (properties : BlockContents) : Type 0 where
@@ -79,7 +84,7 @@ AreDataBlocks bytes before (cell ∷ cells) (block ∷ blocks) = IsDataBlock byt
 pub record IsEntry (kind : TableKind) (cell : Cell) : Type 0 where
   pub kind_fits : IsTrue (is_kind (kind_of cell.key) cell.value)
   pub number_fits : IsTrue (may_have kind (number_of cell.key))
-  pub size : length cell.value ≤ 1048576
+  pub size : length cell.value ≤ VALUE_BYTES
 
 -- the blocks of a table
 pub record Blocks : Type 0 where

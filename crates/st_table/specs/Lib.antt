@@ -3,10 +3,10 @@ pub mod Entries
 pub mod EntryArena
 pub mod Footer
 pub mod Found
+pub mod Handle
 pub mod IsTable
 pub mod Metaindex
 pub mod Properties
 pub mod Steps
 pub mod Stored
 pub mod Table
-pub mod Written

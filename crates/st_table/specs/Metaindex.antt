@@ -1,13 +1,14 @@
 -- Blocks of names: the metaindex, whose values are handles, and the properties.
-use Rattle.std.specs.Prelude.{ℕ, ◌+◌, ◌-◌, List, [], ◌∷◌, length, codes, Option, Some, None, Result, Err, if◌then◌else◌}
+use Rattle.std.specs.Prelude.{ℕ, ◌+◌, ◌-◌, List, [], ◌∷◌, length, Option, Some, None, Result, Err, if◌then◌else◌}
 use Rattle.std.specs.Option.{is_some}
 use Rattle.st_base.specs.Bytes.{same}
 use Rattle.st_base.specs.declared.faults.TableFault.{TableFault}
 use Rattle.st_base.specs.declared.faults.TableFault.TheVariants.{RangeDel, NoProperties}
 use Rattle.st_block.specs.Block.{Cell}
 use Rattle.st_block.specs.BlockContents.{BlockContents, offset_of}
-use Rattle.st_table.specs.Footer.{value_handle}
+use Rattle.st_table.specs.Handle.{value_handle}
 use Rattle.st_table.specs.declared.handle.Handle.{Handle}
+use Rattle.st_table.specs.declared.metaindex.TheConstants.{PROPERTIES_NAME, RANGE_DEL_NAME}
 
 -- where the value of an entry begins in its block: it ends where the entries behind it begin, or where all end
 abbrev pub value_offset : ℕ → Cell → List Cell → ℕ
@@ -23,10 +24,10 @@ abbrev pub named_in : List ℕ → BlockContents → Option (ℕ × List ℕ)
 named_in name block = value_named name block.end block.cells
 
 abbrev pub properties_name : List ℕ
-properties_name = codes "rocksdb.properties"
+properties_name = PROPERTIES_NAME.now
 
 abbrev pub range_del_name : List ℕ
-range_del_name = codes "rocksdb.range_del"
+range_del_name = RANGE_DEL_NAME.now
 
 -- the handle of the properties in a metaindex block that begins at a place in the file
 abbrev pub properties_at : List ℕ → ℕ → Option (ℕ × List ℕ) → Result Handle TableFault

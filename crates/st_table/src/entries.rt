@@ -1,24 +1,15 @@
-ghost use Rattle.std.specs.Prelude.{◌≡◌, ◌≤◌, ◌/◌, ◌%◌, [], ◌∷◌, ◌++◌, length, Option, Some, Ok, IfOk, IfErr, OnOk, IsTrue, option_map};
-ghost use Rattle.st_base.specs.Order.{in_order};
-ghost use Rattle.st_base.specs.Rows.{AreRows, entry_of, mark_of};
-ghost use Rattle.st_block.specs.InternalKey.{user_key};
+ghost use Rattle.std.specs.Prelude.{◌≡◌, ◌≤◌, length, Ok, IfErr, OnOk, option_map};
+ghost use Rattle.st_base.specs.Rows.{AreRows, entry_of};
 ghost use Rattle.st_table.specs.DataBlocks.{last_cell_key};
-ghost use Rattle.st_table.specs.Entries.{entry_fault, entry_under, is_behind, is_kind, mark_under, may_have, with_entries, with_cell_entry};
+ghost use Rattle.st_table.specs.Entries.{entry_fault, is_behind, may_have, with_entries, with_cell_entry};
 ghost use Rattle.st_table.specs.Steps.{Fails};
 
 use crate::entry_arena::EntryArena;
 use crate::fault::OpenTableFault;
+use crate::find::is_before;
 use crate::kind::TableKind;
-use st_base::{EntryRef, INTERNAL_KEY_BYTES, KEY_BYTES, MarkRef, Scratch, TableFault, VALUE_BYTES};
-use st_block::{Block, packed};
-use std::cmp::Ordering;
-
-// Whether an entry may have this kind with this value.
-fn is_kind(kind: u64, value: &[u8]) -> bool
-    ensures { result ≡ is_kind kind value.now }
-{
-    kind < 2 && !(kind == 0 && !value.is_empty())
-}
+use st_base::{EntryRef, INTERNAL_KEY_BYTES, Scratch, TableFault, VALUE_BYTES};
+use st_block::{Block, entry_under, is_kind, unpacked, user_key};
 
 // Whether an entry of this kind of table may have the sequence number.
 fn may_have(kind: TableKind, number: u64) -> bool
@@ -34,23 +25,10 @@ fn may_have(kind: TableKind, number: u64) -> bool
 fn is_behind(before: Option<EntryRef<'_>>, key: &[u8], number: u64) -> bool
     ensures { result ≡ is_behind (option_map entry_of before.entry) key.now number }
 {
-    let Some(entry) = before else {
-        return true;
-    };
-    match entry.key.cmp(key) {
-        Ordering::Less => true,
-        Ordering::Equal => number < entry.number,
-        Ordering::Greater => false,
+    match before {
+        Some(entry) => is_before(entry, key, number),
+        None => true,
     }
-}
-
-// The user key of an internal key.
-fn user_key(internal: &[u8]) -> &[u8]
-    requires { length internal.now ≤ INTERNAL_KEY_BYTES }
-    ensures value { result.now ≡ user_key internal.now }
-    ensures within { length result.now ≤ KEY_BYTES }
-{
-    &internal[..internal.len().saturating_sub(8)]
 }
 
 // The fault of an entry that stands at the place of the table, behind another.
@@ -61,13 +39,11 @@ fn entry_fault(
     internal: &[u8],
     value: &[u8],
 ) -> Option<TableFault>
-    requires { length internal.now ≤ INTERNAL_KEY_BYTES }
     ensures { result ≡ entry_fault kind index (option_map entry_of before.entry) internal.now value.now }
 {
-    let packed = packed(internal);
-    let number = packed / 256;
-    if !is_kind(packed % 256, value) {
-        return Some(TableFault::Kind(index, (packed % 256) as u8));
+    let (number, entry_kind) = unpacked(internal);
+    if !is_kind(entry_kind, value) {
+        return Some(TableFault::Kind(index, entry_kind as u8));
     }
     if !may_have(kind, number) {
         return Some(TableFault::Number(index, number));
@@ -79,30 +55,6 @@ fn entry_fault(
         return Some(TableFault::Order(index));
     }
     None
-}
-
-// The mark of an entry of this kind.
-fn mark_under(kind: u64, value: &[u8]) -> MarkRef<'_>
-    ensures { mark_of result ≡ mark_under kind value.now }
-{
-    if kind == 0 {
-        MarkRef::Gone
-    } else {
-        MarkRef::Put(value)
-    }
-}
-
-// The entry that an internal key and a value are.
-fn entry_under<'a>(internal: &'a [u8], value: &'a [u8]) -> EntryRef<'a>
-    requires { length internal.now ≤ INTERNAL_KEY_BYTES }
-    ensures { entry_of result ≡ entry_under internal.now value.now }
-{
-    let packed = packed(internal);
-    EntryRef {
-        key: user_key(internal),
-        number: packed / 256,
-        mark: mark_under(packed % 256, value),
-    }
 }
 
 // Puts the entry that an internal key and a value are behind those before, or finds its fault.

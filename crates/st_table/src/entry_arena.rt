@@ -5,7 +5,7 @@
 //! ```
 //!
 //! Each entry has a place that says where its key begins and ends and where its value ends. A tombstone has no value.
-ghost use Rattle.std.specs.Prelude.{◌≡◌, ◌≤◌, ◌<◌, [], ◌∷◌, ◌++◌, length, take, OnOk, IfOk, Some, slice_get, map, option_map};
+ghost use Rattle.std.specs.Prelude.{◌≡◌, ◌<◌, [], ◌∷◌, ◌++◌, length, take, OnOk, IfOk, Some, slice_get, map, option_map};
 ghost use Rattle.st_base.specs.Rows.{entry_of, mark_of};
 ghost use Rattle.st_table.specs.EntryArena.{EndsValue, Lies, entry_in, mark_in, slot_numbered};
 ghost use Rattle.st_table.specs.Entries.{last_entry};

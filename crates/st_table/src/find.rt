@@ -6,8 +6,8 @@ use crate::entry_arena::EntryArena;
 use st_base::{EntryRef, MarkRef, lower_place_parts_entries};
 use std::cmp::Ordering;
 
-// Whether the entry comes before the place of the key and the number.
-fn is_before(entry: EntryRef<'_>, key: &[u8], number: u64) -> bool
+/// Whether the entry comes before the place of the key and the number.
+pub(crate) fn is_before(entry: EntryRef<'_>, key: &[u8], number: u64) -> bool
     ensures { result ≡ is_before key.now number (entry_of entry.entry) }
 {
     match entry.key.cmp(key) {

@@ -1,14 +1,37 @@
-ghost use Rattle.std.specs.Prelude.{◌≡◌, ◌+◌, ◌-◌, ◌≤◌, IfOk, length, drop};
-ghost use Rattle.std.specs.Int.{w32, w64, from_le_bytes};
-ghost use Rattle.st_table.specs.Footer.{footer_of, greatest_size, handles_of};
+//! The footer is the last 53 bytes of a table:
+//!
+//! ```text
+//! checksum type      1 byte: 1 is CRC-32C
+//! metaindex handle   varint64 offset, varint64 size
+//! index handle       varint64 offset, varint64 size
+//! padding            up to the 41st byte; zeros are written, and what is there isn't looked at
+//! version            fixed32: 2
+//! magic number       fixed64: 0x88e241b785f4cff7
+//! ```
+ghost use Rattle.std.specs.Prelude.{◌≡◌, ◌≤◌, ◌++◌, IfOk, OnOk, length};
+ghost use Rattle.st_table.specs.Footer.{footer_bytes, footer_of, handles_of, padded};
+ghost use Rattle.st_table.specs.Handle.{LiesInFile};
 
-use crate::handle::{FOOTER_BYTES, Handle, footer_handle};
-use crate::kind::TableKind;
-use st_base::TableFault;
-use st_code::{read_fixed32, read_fixed64};
+use crate::handle::{Handle, footer_handle, put_handle};
+use crate::kind::{TableKind, greatest_size};
+use st_base::{Bytes, TableFault};
+use st_code::{fixed32_in, fixed64_in, push_fixed32, push_fixed64};
+use std::alloc::{AllocError, Global};
 
-/// The magic number of a block-based table, at the end of its footer.
-pub(crate) const MAGIC: u64 = 0x88e2_41b7_85f4_cff7;
+/// The length of a footer, in bytes.
+pub const FOOTER_BYTES: usize = 53;
+
+/// How many bytes of a footer stand before the version.
+const PADDED_BYTES: usize = 41;
+
+/// The checksum type of CRC-32C.
+const CHECKSUM_TYPE: u8 = 1;
+
+/// The version of the format of tables.
+const FORMAT_VERSION: u32 = 2;
+
+/// The magic number of a block-based table.
+const MAGIC: u64 = 0x88e2_41b7_85f4_cff7;
 
 /// What a footer points to.
 #[derive(Clone, Copy)]
@@ -17,39 +40,43 @@ pub(crate) struct Footer {
     pub(crate) index: Handle,
 }
 
-/// The greatest size of a table of this kind, in bytes.
-pub(crate) fn greatest_size(kind: TableKind) -> u64
-    ensures { result ≡ greatest_size kind }
+// Puts zero bytes at the end, up to the version.
+fn pad(out: &mut Bytes) -> Result<(), AllocError>
+    ensures { OnOk result (out.new ≡ padded out.old) }
 {
-    match kind {
-        TableKind::External => 67_108_864,
-        TableKind::Own => 4_294_967_295,
+    let missing = PADDED_BYTES.saturating_sub(out.len());
+    for _done in 0..missing {
+        out.push(0)?;
     }
+    Ok(())
 }
 
-// The fixed32 at the place.
-pub(crate) fn fixed32_in(bytes: &[u8], at: usize) -> u32
-    requires { at + 4 ≤ length bytes.now }
-    ensures { result ≡ from_le_bytes w32 (drop at bytes.now) }
+/// Puts the footer at the end; where memory runs out, some of it may stand there.
+pub fn put_footer(
+    alloc: Global,
+    out: &mut Bytes,
+    metaindex: Handle,
+    index: Handle,
+) -> Result<(), AllocError>
+    ensures { OnOk result (out.new ≡ out.old ++ footer_bytes metaindex index) }
 {
-    read_fixed32(bytes, at).unwrap_or(0)
-}
-
-// The fixed64 at the place.
-fn fixed64_in(bytes: &[u8], at: usize) -> u64
-    requires { at + 8 ≤ length bytes.now }
-    ensures { result ≡ from_le_bytes w64 (drop at bytes.now) }
-{
-    read_fixed64(bytes, at).unwrap_or(0)
+    let mut footer = Bytes::new(alloc);
+    footer.push(CHECKSUM_TYPE)?;
+    put_handle(&mut footer, metaindex)?;
+    put_handle(&mut footer, index)?;
+    pad(&mut footer)?;
+    push_fixed32(&mut footer, FORMAT_VERSION)?;
+    push_fixed64(&mut footer, MAGIC)?;
+    out.extend_from_slice(footer.as_slice())
 }
 
 // The handles of the metaindex and the index, behind the checksum type.
 #[tactic(auto, unfolding(crate::specs::Footer::handles_of))]
 fn handles_of(bytes: &[u8]) -> Result<Footer, TableFault>
-    requires { 53 ≤ length bytes.now }
+    requires { FOOTER_BYTES ≤ length bytes.now }
     ensures value { result ≡ handles_of bytes.now }
-    ensures metaindex { IfOk result (λ footer. footer.metaindex.offset + footer.metaindex.size + 58 ≤ length bytes.now) }
-    ensures index { IfOk result (λ footer. footer.index.offset + footer.index.size + 58 ≤ length bytes.now) }
+    ensures metaindex { IfOk result (λ footer. LiesInFile bytes.now footer.metaindex) }
+    ensures index { IfOk result (λ footer. LiesInFile bytes.now footer.index) }
 {
     let (metaindex, at) = footer_handle(bytes, bytes.len() - 52)?;
     let (index, _end) = footer_handle(bytes, at)?;
@@ -60,11 +87,11 @@ fn handles_of(bytes: &[u8]) -> Result<Footer, TableFault>
 #[tactic(auto, unfolding(crate::specs::Footer::footer_of))]
 pub(crate) fn footer_of(bytes: &[u8], kind: TableKind) -> Result<Footer, TableFault>
     ensures value { result ≡ footer_of kind bytes.now }
-    ensures metaindex { IfOk result (λ footer. footer.metaindex.offset + footer.metaindex.size + 58 ≤ length bytes.now) }
-    ensures index { IfOk result (λ footer. footer.index.offset + footer.index.size + 58 ≤ length bytes.now) }
+    ensures metaindex { IfOk result (λ footer. LiesInFile bytes.now footer.metaindex) }
+    ensures index { IfOk result (λ footer. LiesInFile bytes.now footer.index) }
 {
     let length = bytes.len();
-    if length as u64 > greatest_size(kind) {
+    if length > greatest_size(kind) {
         return Err(TableFault::TooLarge);
     }
     if length < FOOTER_BYTES {
@@ -74,11 +101,11 @@ pub(crate) fn footer_of(bytes: &[u8], kind: TableKind) -> Result<Footer, TableFa
         return Err(TableFault::Magic);
     }
     let version = fixed32_in(bytes, length - 12);
-    if version != 2 {
+    if version != FORMAT_VERSION {
         return Err(TableFault::Version(version));
     }
     let checksum = bytes[length - FOOTER_BYTES];
-    if checksum != 1 {
+    if checksum != CHECKSUM_TYPE {
         return Err(TableFault::Checksum(checksum));
     }
     handles_of(bytes)

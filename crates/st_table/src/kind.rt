@@ -1,3 +1,11 @@
+ghost use Rattle.std.specs.Prelude.{◌≡◌};
+ghost use Rattle.st_table.specs.Footer.{greatest_size};
+
+use st_base::TABLE_BYTES;
+
+/// The greatest length of a table of a store, in bytes.
+pub const OWN_TABLE_BYTES: usize = 4_294_967_295;
+
 /// Which rules a table obeys.
 #[derive(Clone, Copy, PartialEq)]
 pub enum TableKind {
@@ -6,4 +14,14 @@ pub enum TableKind {
     External,
     /// A table of a store: at most 4,294,967,295 bytes, and entries in strict order.
     Own,
+}
+
+/// The greatest length of a table of this kind, in bytes.
+pub fn greatest_size(kind: TableKind) -> usize
+    ensures { result ≡ greatest_size kind }
+{
+    match kind {
+        TableKind::External => TABLE_BYTES,
+        TableKind::Own => OWN_TABLE_BYTES,
+    }
 }

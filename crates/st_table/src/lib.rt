@@ -12,12 +12,11 @@
 //!
 //! A layer above may rely on this: what `Table::open` accepts is a table of its kind, and the opened table is the list of
 //! its entries; what it refuses has exactly the first fault in reading order. Bytes are read once, from the footer to the
-//! last data block, and nothing is reserved by a count or a length that they state. `TableWriter::finish` gives exactly the
-//! written table of what was added, which opens again, and `add` says exactly when it would pass its kind's limit.
+//! last data block, and nothing is reserved by a count or a length that they state. Handles, stored blocks and the footer
+//! are written here too, beside their readers, for the crate that writes tables.
 #![tactic(auto)]
 
 mod data_blocks;
-mod ending;
 mod entries;
 mod entry_arena;
 mod fault;
@@ -29,12 +28,17 @@ mod laws;
 mod metaindex;
 mod properties;
 mod stored;
-mod stored_bytes;
 mod table;
-mod writer;
 
 pub use fault::OpenTableFault;
-pub use kind::TableKind;
-pub use laws::{table_or_first_fault, table_writer_holds_what_is_added, written_table_opens};
+pub use footer::{FOOTER_BYTES, put_footer};
+pub use handle::{Handle, handle_bytes};
+pub use kind::{OWN_TABLE_BYTES, TableKind, greatest_size};
+pub use laws::table_or_first_fault;
+pub use metaindex::PROPERTIES_NAME;
+pub use properties::{
+    BYTEWISE_COMPARATOR, COMPARATOR_NAME, ENTRIES_NAME, EXTERNAL_VERSION, SEQUENCE_NAME,
+    VERSION_NAME,
+};
+pub use stored::{TRAILER_BYTES, push_stored};
 pub use table::Table;
-pub use writer::{AddFault, TableWriter};

@@ -1,10 +1,23 @@
-ghost use Rattle.std.specs.Prelude.{◌≡◌, ◌+◌, ◌≤◌, ◌^◌, ◌<◌, IfOk, IfSome, length, option_map};
+//! The metaindex block has handles of blocks under names. These are looked at; others are skipped:
+//!
+//! ```text
+//! rocksdb.properties   the properties block
+//! rocksdb.range_del    range deletions, with which a table is refused
+//! ```
+ghost use Rattle.std.specs.Prelude.{◌≡◌, ◌+◌, ◌≤◌, ◌^◌, ◌<◌, IfOk, IfSome, option_map};
+ghost use Rattle.st_table.specs.Handle.{LiesInFile};
 ghost use Rattle.st_table.specs.Metaindex.{named_in, properties_handle};
 ghost use Rattle.st_table.specs.Found.{found_of};
 
 use crate::handle::{Handle, value_handle};
 use st_base::{Scratch, TableFault};
 use st_block::Block;
+
+/// The name of the properties block.
+pub const PROPERTIES_NAME: &[u8] = b"rocksdb.properties";
+
+/// The name of the range deletions.
+const RANGE_DEL_NAME: &[u8] = b"rocksdb.range_del";
 
 /// A value that stands under a name in a block.
 #[derive(Clone, Copy)]
@@ -47,12 +60,12 @@ pub(crate) fn properties_handle(
 ) -> Result<Handle, TableFault>
     requires { at + metaindex.now.end < 2 ^ 64 }
     ensures value { result ≡ properties_handle bytes.now at metaindex.now }
-    ensures lies { IfOk result (λ handle. handle.offset + handle.size + 58 ≤ length bytes.now) }
+    ensures lies { IfOk result (LiesInFile bytes.now) }
 {
-    if named_in(metaindex, b"rocksdb.range_del", scratch).is_some() {
+    if named_in(metaindex, RANGE_DEL_NAME, scratch).is_some() {
         return Err(TableFault::RangeDel);
     }
-    match named_in(metaindex, b"rocksdb.properties", scratch) {
+    match named_in(metaindex, PROPERTIES_NAME, scratch) {
         None => Err(TableFault::NoProperties),
         Some(found) => value_handle(bytes, at + found.at as u64, found.value),
     }

@@ -1,14 +1,58 @@
-ghost use Rattle.std.specs.Prelude.{◌≡◌, ◌+◌, ◌≤◌, Ok, Err, IfOk, IfErr, length};
+//! A block as it is stored in a file, with a trailer of 5 bytes behind it:
+//!
+//! ```text
+//! block
+//! compression type   1 byte: 0 is none
+//! sum                fixed32: the masked CRC-32C of the block and the compression type
+//! ```
+ghost use Rattle.std.specs.Prelude.{◌≡◌, ◌≤◌, ◌++◌, Ok, IfOk, IfErr, OnErr, OnOk};
+ghost use Rattle.st_block.specs.Written.{Appends};
+ghost use Rattle.st_table.specs.Handle.{LiesInFile};
 ghost use Rattle.st_table.specs.Steps.{Fails};
-ghost use Rattle.st_table.specs.Stored.{block_at};
+ghost use Rattle.st_table.specs.Stored.{block_at, stored};
 
 use crate::fault::OpenTableFault;
-use crate::footer::fixed32_in;
 use crate::handle::Handle;
 use st_base::{Bytes, Scratch, TableFault};
 use st_block::{Block, BlockKind};
-use st_code::{crc32c, mask};
+use st_code::{Crc, crc_in_pieces, crc32c, fixed32_in, mask, push_fixed32};
+use std::alloc::AllocError;
 use std::sync::Arc;
+
+/// The length of a block's trailer, in bytes.
+pub const TRAILER_BYTES: usize = 5;
+
+/// The compression type of a block that isn't compressed.
+const NO_COMPRESSION: u8 = 0;
+
+// Puts a block and its trailer at the end; where memory runs out, some of it may stand there.
+fn put_stored(out: &mut Bytes, contents: &[u8]) -> Result<(), AllocError>
+    ensures ok { OnOk result (out.new ≡ out.old ++ stored contents.now) }
+    ensures err { OnErr result (Appends out.old out.new) }
+{
+    crc_in_pieces();
+    let mut sum = Crc::start();
+    sum.update(contents);
+    sum.update(&[NO_COMPRESSION]);
+    out.extend_from_slice(contents)?;
+    out.push(NO_COMPRESSION)?;
+    push_fixed32(out, mask(sum.finish()))
+}
+
+/// Puts a block and its trailer at the end; an error leaves the bytes as they were.
+pub fn push_stored(out: &mut Bytes, contents: &[u8]) -> Result<(), AllocError>
+    ensures ok { OnOk result (out.new ≡ out.old ++ stored contents.now) }
+    ensures err { OnErr result (out.new ≡ out.old) }
+{
+    let before = out.len();
+    match put_stored(out, contents) {
+        Ok(()) => Ok(()),
+        Err(error) => {
+            out.truncate(before);
+            Err(error)
+        }
+    }
+}
 
 /// The block of a handle that lies in the file, or its first fault: of its compression type, its sum, its contents.
 #[tactic(auto, unfolding(crate::specs::Stored::block_at))]
@@ -18,7 +62,7 @@ pub(crate) fn block_at(
     kind: BlockKind,
     scratch: &mut Scratch,
 ) -> Result<Block, OpenTableFault>
-    requires { handle.offset + handle.size + 58 ≤ length bytes.now.value }
+    requires { LiesInFile bytes.now.value handle }
     ensures ok { IfOk result (λ block. block_at kind bytes.now.value handle ≡ Ok block) }
     ensures within { IfOk result (λ block. block.end ≤ handle.size) }
     ensures err { IfErr result (λ fault. Fails fault (block_at kind bytes.now.value handle)) }
@@ -27,7 +71,7 @@ pub(crate) fn block_at(
     let from = handle.offset as usize;
     let size = handle.size as usize;
     let end = from + size;
-    if text[end] != 0 {
+    if text[end] != NO_COMPRESSION {
         return Err(TableFault::Compressed(handle.offset).into());
     }
     let stored = fixed32_in(text, end + 1);

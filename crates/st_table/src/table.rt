@@ -1,5 +1,5 @@
-ghost use Rattle.std.specs.Prelude.{◌≡◌, ◌⊎◌, ◌<◌, ◌^◌, List, Ok, IfOk, IfErr, IsTrue, length, option_map};
-ghost use Rattle.st_base.specs.Rows.{AreRows, entry_of, first_key, last_key, lower_place, mark_of, newest};
+ghost use Rattle.std.specs.Prelude.{◌≡◌, ◌⊎◌, ◌<◌, List, Ok, IfOk, IfErr, IsTrue, option_map};
+ghost use Rattle.st_base.specs.Rows.{AreRows, mark_of, newest};
 ghost use Rattle.st_base.specs.declared.entry.Entry.{Entry};
 ghost use Rattle.st_table.specs.Steps.{Fails};
 ghost use Rattle.st_table.specs.IsTable.{IsTable};

@@ -4,8 +4,9 @@ use st_base::{
     VALUE_BYTES,
 };
 use st_code::crc32c;
-use st_table::{AddFault, OpenTableFault, Table, TableKind, TableWriter, table_or_first_fault};
+use st_table::{OpenTableFault, Table, TableKind, table_or_first_fault};
 use std::alloc::{AllocError, Global};
+use table_writer::{AddFault, TableWriter};
 
 const EXTERNAL: TableKind = TableKind::External;
 

@@ -1,6 +1,6 @@
 use Rattle.std.proofs.Common.{◌≡◌, Err, sym, ap, ◌∙◌}
 use Rattle.st_base.specs.Rows.{mark_of}
-use Rattle.st_table.specs.declared.writer.AddFault.{AddFault}
+use Rattle.table_writer.specs.declared.fault.AddFault.{AddFault}
 use Rattle.sst_writer.specs.declared.fault.WriterFault.TheVariants.{TooLarge}
 use Rattle.sst_writer.proofs.Held.{fault_was, more, too_large_of}
 use Rattle.sst_writer.proofs.writer.SstFileWriter.add.Goals as goal
