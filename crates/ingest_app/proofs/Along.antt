@@ -2,7 +2,6 @@
 use Rattle.std.proofs.Common.{◌≡◌, ◌⊎◌, inl, inr, ⊎_elim, ℕ, zero, suc, ◌<◌, ◌≤◌, Bool, true, false, cond, List, [], ◌∷◌, ◌++◌, length, get_or, Option, Some, None, refl, sym, ◌∙◌, ap, subst, arith, le_trans, le_refl, true≢false, zero-le, IsFalse}
 use Rattle.std.specs.Prelude.{is_some}
 use Rattle.std.specs.List.{AllByRecursion as Each}
-use Rattle.st_base.specs.Count.{Rose}
 use Rattle.st_device.specs.Disk.{Image, DiskTold, IsHonest, Leaves, Passes}
 use Rattle.st_device.proofs.Moments.{leaves_then}
 use Rattle.log_engine.specs.Engine.{OpensTo}
@@ -178,15 +177,6 @@ along_start name text opening before store stopped printed stands place running 
   crash = λ honest image left. inl (record { count = 0; within = zero-le; opens = leaves honest image left });
   whole = λ honest none. opens honest;
 }
-
--- ---- the cause of a stop
-
--- the disk has failed where the store is stopped
-pub rose_then : (a b c : ℕ) → a ≤ b → Rose b c → Rose a c
-rose_then a b c le rose = omega (arith, le, rose)
-
-pub rose_later : (a b c : ℕ) → b ≤ c → Rose a b → Rose a c
-rose_later a b c le rose = omega (arith, le, rose)
 
 -- what holds of each element holds of one
 pub each_at : {X : Type 0} (P : X → Type 0) (xs : List X) (i : ℕ) (x : X) → i < length xs → x ≡ get_or xs i x → Each P xs → P x

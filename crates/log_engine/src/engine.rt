@@ -1,9 +1,8 @@
 // The engine.
-ghost use Rattle.std.specs.Prelude.{◌≡◌, ◌⊎◌, ◌+◌, ◌≤◌, ◌<◌, ◌↔◌, ◌++◌, ◌∷◌, [], ℕ, List, IfErr, IfOk, IsErrOf, IsSome, OnErr, OnOk, None, Some, false, length, map, is_ok};
+ghost use Rattle.std.specs.Prelude.{◌≡◌, ◌⊎◌, ◌+◌, ◌≤◌, ◌<◌, ◌↔◌, ◌++◌, ◌∷◌, [], ℕ, List, IfErr, IfOk, IsErr, IsErrOf, IsSome, OnErr, OnOk, None, Some, false, length, map, is_ok};
 ghost use Rattle.std.specs.List.{AllByRecursion as Each};
-ghost use Rattle.st_base.specs.Count.{Rose};
 ghost use Rattle.st_base.specs.Entries.{add_charge};
-ghost use Rattle.st_device.specs.Disk.{Image, IsHonest, Leaves, OnlyFile, Passes};
+ghost use Rattle.st_device.specs.Disk.{ChangesDisk, Image, IsHonest, Leaves, OnlyFile};
 ghost use Rattle.st_model.specs.declared.state.ModelState.{ModelState};
 ghost use Rattle.st_model.specs.Legal.{is_stop};
 ghost use Rattle.st_model.specs.Answer.{found, get_answer, unknown_families, write_refusals};
@@ -71,9 +70,9 @@ impl<D: Disk> Engine<D> {
         ensures crash_err { IfErr result (λ back. IsHonest (D.tells disk) → Leaves (λ image. (D.tells disk).now image ⊎ (opens image ≡ opens (D.tells disk).reads)) (D.tells disk) (D.tells back.0)) }
         ensures after { IfOk result (λ engine. IsHonest (D.tells disk) → (image : Image) → (D.tells engine.disk).now image → opens image ≡ opens (D.tells disk).reads) }
 
-        ensures passes { IfOk result (λ engine. Passes (D.tells disk) (D.tells engine.disk)) }
-        ensures passes_err { IfErr result (λ back. Passes (D.tells disk) (D.tells back.0)) }
-        ensures cause { IfErr result (λ back. back.1 ≡ OpenFault.DiskFault → Rose (D.tells disk).faults (D.tells back.0).faults) }
+        ensures disk { IfOk result (λ engine. ChangesDisk (D.tells disk) (D.tells engine.disk) (D.tells engine.disk).top ⊥) }
+        ensures disk_err { IfErr result
+            (λ back. ChangesDisk (D.tells disk) (D.tells back.0) (D.tells back.0).top (back.1 ≡ OpenFault.DiskFault)) }
     {
         match recover(alloc, &mut disk) {
             Err(fault) => Err((disk, fault)),
@@ -144,8 +143,7 @@ impl<D: Disk> Engine<D> {
         ensures unchanged { OnErr result (self.new.store ≡ self.old.store) }
         ensures fault { IfErr result (λ refusal. refusal ≡ Refusal.DiskFault) }
         ensures stopped { OnErr result (self.new.stopped ≡ Some (D.tells self.new.disk).faults) }
-        ensures passes { Passes (D.tells self.old.disk) (D.tells self.new.disk) }
-        ensures cause { OnErr result (Rose (D.tells self.old.disk).faults (D.tells self.new.disk).faults) }
+        ensures disk { ChangesDisk (D.tells self.old.disk) (D.tells self.new.disk) (D.tells self.old.disk).top (IsErr result) }
     {
         match self.wal.append(&mut self.disk, encoded) {
             Ok(()) => Ok(self.store.accept(ops, charge)),
@@ -183,8 +181,8 @@ impl<D: Disk> Engine<D> {
         ensures untouched { IfErr result (λ refusal. (refusal ≡ Refusal.DiskFault → ⊥) → self.new.disk ≡ self.old.disk) }
 
         ensures options { (self.new.store.behind ≡ self.old.store.behind) × (self.new.store.capacity ≡ self.old.store.capacity) }
-        ensures passes { Passes (D.tells self.old.disk) (D.tells self.new.disk) }
-        ensures cause { IsErrOf result Refusal.DiskFault → Rose (D.tells self.old.disk).faults (D.tells self.new.disk).faults }
+        ensures disk { ChangesDisk (D.tells self.old.disk) (D.tells self.new.disk) (D.tells self.old.disk).top
+            (IsErrOf result Refusal.DiskFault) }
     {
         if self.stopped.is_some() {
             return Err(Refusal::Stopped);

@@ -1,9 +1,8 @@
 // Why a store isn't opened.
 ghost use Rattle.std.specs.Prelude.{◌≡◌};
 
-use st_device::{Failed, FilesFault};
+use st_device::{Failed, ReadFault};
 use st_gate::ReplayFault;
-use std::alloc::AllocError;
 
 /// Why a store isn't opened.
 #[derive(Drop)]
@@ -26,25 +25,15 @@ impl From<Failed> for OpenFault {
     }
 }
 
-impl From<AllocError> for OpenFault {
-    ghost use Rattle.log_recover.specs.declared.fault.OpenFault.TheVariants.{OutOfMemory};
+impl From<ReadFault> for OpenFault {
+    ghost use Rattle.log_recover.specs.Faults.{of_read};
 
-    ghost from_gives = { λ _ e. e ≡ OutOfMemory };
+    ghost from_gives = { λ fault e. e ≡ of_read fault };
 
-    fn from(_: AllocError) -> Self {
-        OpenFault::OutOfMemory
-    }
-}
-
-impl From<FilesFault> for OpenFault {
-    ghost use Rattle.log_recover.specs.Faults.{of_files};
-
-    ghost from_gives = { λ fault e. e ≡ of_files fault };
-
-    fn from(fault: FilesFault) -> Self {
+    fn from(fault: ReadFault) -> Self {
         match fault {
-            FilesFault::Failed => OpenFault::DiskFault,
-            FilesFault::OutOfMemory => OpenFault::OutOfMemory,
+            ReadFault::Failed => OpenFault::DiskFault,
+            ReadFault::OutOfMemory => OpenFault::OutOfMemory,
         }
     }
 }

@@ -1,7 +1,6 @@
 // A new store is made.
 ghost use Rattle.std.specs.Prelude.{◌≡◌, [], IfOk, IsErr, None, Ok, OnOk};
-ghost use Rattle.st_base.specs.Count.{Rose};
-ghost use Rattle.st_device.specs.Disk.{IsHonest, Leaves, OnlyFile, Passes};
+ghost use Rattle.st_device.specs.Disk.{ChangesDisk, IsHonest, Leaves, OnlyFile};
 ghost use Rattle.st_wal.specs.Wal.{operations};
 ghost use Rattle.log_recover.specs.Opens.{opens};
 ghost use Rattle.log_recover.specs.Store.{IsStore};
@@ -14,8 +13,7 @@ use st_wal::Wal;
 fn clear_log<D: Disk>(disk: &mut D) -> Result<(), Failed>
     ensures only { IsHonest (D.tells disk.old) → OnlyFile LOG_FILE (λ _. Unit {0}) (D.tells disk.old) (D.tells disk.new) }
     ensures absent { IsHonest (D.tells disk.old) → OnOk result ((D.tells disk.new).reads LOG_FILE ≡ None) }
-    ensures passes { Passes (D.tells disk.old) (D.tells disk.new) }
-    ensures cause { IsErr result → Rose (D.tells disk.old).faults (D.tells disk.new).faults }
+    ensures disk { ChangesDisk (D.tells disk.old) (D.tells disk.new) (D.tells disk.old).top (IsErr result) }
 {
     if disk.length(LOG_FILE)?.is_some() {
         disk.remove(LOG_FILE)?;
@@ -29,8 +27,7 @@ pub fn make_store<D: Disk>(disk: &mut D) -> Result<Wal, Failed>
     ensures crash { IsHonest (D.tells disk.old) → Leaves (λ image. opens image ≡ Ok []) (D.tells disk.old) (D.tells disk.new) }
     ensures store { IsHonest (D.tells disk.old) → IfOk result (λ wal. IsStore wal (D.tells disk.new)) }
     ensures empty { IsHonest (D.tells disk.old) → IfOk result (λ wal. operations wal (D.tells disk.new) ≡ []) }
-    ensures passes { Passes (D.tells disk.old) (D.tells disk.new) }
-    ensures cause { IsErr result → Rose (D.tells disk.old).faults (D.tells disk.new).faults }
+    ensures disk { ChangesDisk (D.tells disk.old) (D.tells disk.new) (D.tells disk.old).top (IsErr result) }
 {
     clear_log(disk)?;
     let wal = Wal::make(disk, LOG_FILE)?;

@@ -1,7 +1,6 @@
 // A store is opened.
-ghost use Rattle.std.specs.Prelude.{◌≡◌, ◌⊎◌, IfErr, IfOk, IsSome, Ok, OnOk};
-ghost use Rattle.st_base.specs.Count.{Rose};
-ghost use Rattle.st_device.specs.Disk.{Image, IsHonest, Leaves, Passes, Untouched};
+ghost use Rattle.std.specs.Prelude.{◌≡◌, ◌⊎◌, IfErr, IfOk, IsErrOf, IsSome, Ok, OnOk};
+ghost use Rattle.st_device.specs.Disk.{ChangesDisk, Image, IsHonest, Leaves, ReadsDisk};
 ghost use Rattle.st_wal.specs.Wal.{operations};
 ghost use Rattle.log_recover.specs.Opens.{IsDamageOf, first_log_fault, opens};
 ghost use Rattle.log_recover.specs.Store.{IsSettled, IsStore};
@@ -37,9 +36,7 @@ fn read_log<D: Disk>(alloc: Global, disk: &mut D) -> Result<(List<Logged>, Wal),
     ensures store { IsHonest (D.tells disk.old) → IfOk result (λ read. IsStore read.1 (D.tells disk.new)) }
     ensures operations { IsHonest (D.tells disk.old) → IfOk result (λ read. operations read.1 (D.tells disk.new) ≡ read.0) }
     ensures damage { IsHonest (D.tells disk.old) → IfErr result (IsDamageOf (opens (D.tells disk.old).reads)) }
-    ensures untouched { Untouched (D.tells disk.old) (D.tells disk.new) }
-    ensures passes { Passes (D.tells disk.old) (D.tells disk.new) }
-    ensures cause { result ≡ Err OpenFault.DiskFault → Rose (D.tells disk.old).faults (D.tells disk.new).faults }
+    ensures disk { ReadsDisk (D.tells disk.old) (D.tells disk.new) (IsErrOf result OpenFault.DiskFault) }
 {
     let (operations, wal) = Wal::replay(alloc, disk, LOG_FILE)?;
     match first_fault(operations.as_slice()) {
@@ -64,8 +61,7 @@ pub fn recover<D: Disk>(alloc: Global, disk: &mut D) -> Result<(List<Logged>, Wa
     ensures crash { IsHonest (D.tells disk.old) → Leaves (λ image. (D.tells disk.old).now image ⊎ (opens image ≡ opens (D.tells disk.old).reads)) (D.tells disk.old) (D.tells disk.new) }
     ensures after { IsHonest (D.tells disk.old) → OnOk result ((image : Image) → (D.tells disk.new).now image → opens image ≡ opens (D.tells disk.old).reads) }
 
-    ensures passes { Passes (D.tells disk.old) (D.tells disk.new) }
-    ensures cause { result ≡ Err OpenFault.DiskFault → Rose (D.tells disk.old).faults (D.tells disk.new).faults }
+    ensures disk { ChangesDisk (D.tells disk.old) (D.tells disk.new) (D.tells disk.new).top (IsErrOf result OpenFault.DiskFault) }
 {
     settle(alloc, disk)?;
     if disk.length(MARK_FILE)?.is_some() {

@@ -1,10 +1,9 @@
 // Every file is synced.
 ghost use Rattle.std.specs.Prelude.{◌≡◌, ◌<◌, ℕ, IsErr, IsErrOf, OnOk, length, slice_index};
-ghost use Rattle.st_base.specs.Count.{Rose};
-ghost use Rattle.st_device.specs.Disk.{IsDurable, IsHonest, Leaves, Passes, There};
+ghost use Rattle.st_device.specs.Disk.{ChangesDisk, IsDurable, IsHonest, Leaves, There};
 ghost use Rattle.log_recover.specs.Store.{IsSettled};
 
-use st_device::{Disk, Failed, FilesFault};
+use st_device::{Disk, Failed, ReadFault};
 use std::alloc::Global;
 
 // Syncs these files, which are there.
@@ -13,8 +12,7 @@ fn sync_each<D: Disk>(disk: &mut D, names: &[u64]) -> Result<(), Failed>
     ensures crash { IsHonest (D.tells disk.old) → Leaves (D.tells disk.old).now (D.tells disk.old) (D.tells disk.new) }
     ensures reads { IsHonest (D.tells disk.old) → OnOk result ((file : ℕ) → (D.tells disk.new).reads file ≡ (D.tells disk.old).reads file) }
     ensures settled { IsHonest (D.tells disk.old) → OnOk result ((k : ℕ) → k < length names.now → IsDurable (slice_index names.now k) (D.tells disk.new)) }
-    ensures passes { Passes (D.tells disk.old) (D.tells disk.new) }
-    ensures cause { IsErr result → Rose (D.tells disk.old).faults (D.tells disk.new).faults }
+    ensures disk { ChangesDisk (D.tells disk.old) (D.tells disk.new) (D.tells disk.old).top (IsErr result) }
 {
     for name in names {
         disk.sync(*name)?;
@@ -23,16 +21,13 @@ fn sync_each<D: Disk>(disk: &mut D, names: &[u64]) -> Result<(), Failed>
 }
 
 /// Syncs every file that is there. It adds no image, and after Ok a crash leaves of each file what it reads.
-pub fn settle<D: Disk>(alloc: Global, disk: &mut D) -> Result<(), FilesFault>
+pub fn settle<D: Disk>(alloc: Global, disk: &mut D) -> Result<(), ReadFault>
     ensures crash { IsHonest (D.tells disk.old) → Leaves (D.tells disk.old).now (D.tells disk.old) (D.tells disk.new) }
     ensures reads { IsHonest (D.tells disk.old) → OnOk result ((file : ℕ) → (D.tells disk.new).reads file ≡ (D.tells disk.old).reads file) }
     ensures settled { IsHonest (D.tells disk.old) → OnOk result (IsSettled (D.tells disk.new)) }
-    ensures passes { Passes (D.tells disk.old) (D.tells disk.new) }
-    ensures cause { IsErrOf result FilesFault.Failed → Rose (D.tells disk.old).faults (D.tells disk.new).faults }
+    ensures disk { ChangesDisk (D.tells disk.old) (D.tells disk.new) (D.tells disk.new).top (IsErrOf result ReadFault.Failed) }
 {
     let names = disk.files(alloc)?;
-    match sync_each(disk, names.as_slice()) {
-        Ok(()) => Ok(()),
-        Err(Failed) => Err(FilesFault::Failed),
-    }
+    sync_each(disk, names.as_slice())?;
+    Ok(())
 }

@@ -1,8 +1,8 @@
 ghost use Rattle.std.specs.Prelude.{◌≡◌, ◌≤◌, ◌<◌, ℕ, List, None, false, length, IfOk, IsTrue};
 ghost use Rattle.st_base.specs.Names.{is_name};
 
-use crate::counts::raised;
 use st_base::NAME_BYTES;
+use st_outside::FaultCount;
 use st_stream::{Failed, Inputs};
 use std::io::{ErrorKind, Read, Seek, SeekFrom};
 use std::rt::Files;
@@ -17,8 +17,7 @@ use std::{fs, io};
 pub struct FolderInputs<R: Files> {
     rt: R,
     opened: Option<OpenFile<R::File>>,
-    faults: u64,
-    ghost small: { faults ≤ 18446744073709551615 },
+    faults: FaultCount,
 }
 
 // An open file with its name.
@@ -76,7 +75,7 @@ impl<R: Files> FolderInputs<R> {
         FolderInputs {
             rt,
             opened: None,
-            faults: 0,
+            faults: FaultCount::new(),
         }
     }
 
@@ -93,7 +92,7 @@ impl<R: Files> FolderInputs<R> {
     // Opens the file, unless it is open.
     fn open(&mut self, name: &str) -> io::Result<()>
         requires { IsTrue (is_name name.now) }
-        ensures { self.new.faults ≡ self.old.faults }
+        ensures { self.new.faults.count ≡ self.old.faults.count }
     {
         let open = match &self.opened {
             Some(opened) => opened.is_named(name),
@@ -109,7 +108,7 @@ impl<R: Files> FolderInputs<R> {
     fn read_at(&mut self, name: &str, at: u64, buffer: &mut [u8]) -> io::Result<usize>
         requires { IsTrue (is_name name.now) }
         ensures within { IfOk result (λ n. n ≤ length buffer.old) }
-        ensures faults { self.new.faults ≡ self.old.faults }
+        ensures faults { self.new.faults.count ≡ self.old.faults.count }
     {
         self.open(name)?;
         match &mut self.opened {
@@ -122,27 +121,21 @@ impl<R: Files> FolderInputs<R> {
 impl<R: Files> Inputs for FolderInputs<R> {
     ghost use Rattle.st_stream.specs.Inputs.{InputsTold};
 
-    ghost tells = { λ inputs. record { known = false; file = λ _. None; faults = inputs.faults } };
+    ghost tells = { λ inputs. record { known = false; file = λ _. None; faults = inputs.faults.count } };
 
-    ghost counted = { λ inputs. inputs.small };
+    ghost counted = { λ inputs. inputs.faults.small };
 
     fn size(&mut self, name: &str) -> Result<Option<u64>, Failed> {
         match self.length_of(name) {
             Ok(length) => Ok(length),
-            Err(_) => {
-                self.faults = raised(self.faults);
-                Err(Failed)
-            }
+            Err(_) => Err(self.faults.fail()),
         }
     }
 
     fn read(&mut self, name: &str, at: u64, buffer: &mut [u8]) -> Result<usize, Failed> {
         match self.read_at(name, at, buffer) {
             Ok(came) => Ok(came),
-            Err(_) => {
-                self.faults = raised(self.faults);
-                Err(Failed)
-            }
+            Err(_) => Err(self.faults.fail()),
         }
     }
 }

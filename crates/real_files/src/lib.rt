@@ -10,7 +10,6 @@
 //! calls each.
 #![tactic(auto)]
 
-mod counts;
 mod folder_disk;
 mod folder_inputs;
 mod open_files;

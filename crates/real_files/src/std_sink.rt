@@ -1,7 +1,7 @@
 ghost use Rattle.std.specs.Prelude.{◌≡◌, ◌≤◌, ◌<◌, [], false};
 ghost use Rattle.st_stream.specs.Sink.{SinkTold};
 
-use crate::counts::raised;
+use st_outside::FaultCount;
 use st_stream::{Failed, Sink};
 use std::io::ErrorKind;
 
@@ -15,21 +15,23 @@ const TRIES: usize = 64;
 #[derive(Drop)]
 pub struct StdSink<R: Print> {
     rt: R,
-    faults: u64,
-    ghost small: { faults ≤ 18446744073709551615 },
+    faults: FaultCount,
 }
 
 impl<R: Print> StdSink<R> {
     /// The standard output of this runtime.
     pub fn new(rt: R) -> StdSink<R> {
-        StdSink { rt, faults: 0 }
+        StdSink {
+            rt,
+            faults: FaultCount::new(),
+        }
     }
 }
 
 impl<R: Print> Sink for StdSink<R> {
-    ghost tells = { λ sink. record { known = false; written = []; faults = sink.faults } };
+    ghost tells = { λ sink. record { known = false; written = []; faults = sink.faults.count } };
 
-    ghost counted = { λ sink. sink.small };
+    ghost counted = { λ sink. sink.faults.small };
 
     fn write(&mut self, bytes: &[u8]) -> Result<usize, Failed> {
         for _ in 0..TRIES {
@@ -39,7 +41,6 @@ impl<R: Print> Sink for StdSink<R> {
                 _ => break,
             }
         }
-        self.faults = raised(self.faults);
-        Err(Failed)
+        Err(self.faults.fail())
     }
 }

@@ -1,7 +1,7 @@
 ghost use Rattle.std.specs.Prelude.{◌≡◌, ◌≤◌, ◌<◌, [], false};
 ghost use Rattle.st_stream.specs.Source.{SourceTold};
 
-use crate::counts::raised;
+use st_outside::FaultCount;
 use st_stream::{Failed, Source};
 use std::io::{ErrorKind, Read};
 
@@ -15,8 +15,7 @@ const TRIES: usize = 64;
 #[derive(Drop)]
 pub struct StdSource<R: Input> {
     reader: R::Reader,
-    faults: u64,
-    ghost small: { faults ≤ 18446744073709551615 },
+    faults: FaultCount,
 }
 
 impl<R: Input> StdSource<R> {
@@ -24,15 +23,15 @@ impl<R: Input> StdSource<R> {
     pub fn new(rt: &R) -> StdSource<R> {
         StdSource {
             reader: rt.reader(),
-            faults: 0,
+            faults: FaultCount::new(),
         }
     }
 }
 
 impl<R: Input> Source for StdSource<R> {
-    ghost tells = { λ source. record { known = false; left = []; faults = source.faults } };
+    ghost tells = { λ source. record { known = false; left = []; faults = source.faults.count } };
 
-    ghost counted = { λ source. source.small };
+    ghost counted = { λ source. source.faults.small };
 
     fn read(&mut self, buffer: &mut [u8]) -> Result<usize, Failed> {
         for _ in 0..TRIES {
@@ -42,7 +41,6 @@ impl<R: Input> Source for StdSource<R> {
                 Err(_) => break,
             }
         }
-        self.faults = raised(self.faults);
-        Err(Failed)
+        Err(self.faults.fail())
     }
 }

@@ -4,7 +4,6 @@ pub mod MemInputs
 pub mod MemInputsState
 pub mod MemSink
 pub mod MemSource
-pub mod Schedule
 pub mod Sink
 pub mod Source
 pub mod SourceRead

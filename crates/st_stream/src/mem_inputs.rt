@@ -3,12 +3,12 @@ ghost use Rattle.std.specs.Option.{option_copied};
 ghost use Rattle.st_base.specs.Names.{is_name};
 ghost use Rattle.st_base.specs.Count.{Rose, greatest_count};
 ghost use Rattle.st_stream.specs.Inputs.{InputsUntouched, ReadsAt, bytes_of};
-ghost use Rattle.st_stream.specs.Schedule.{CountsCall, fails_next};
+ghost use Rattle.st_outside.specs.FailingCalls.{CountsCall, fails_next};
 ghost use Rattle.st_stream.specs.MemInputs.{file_named};
 
-use crate::schedule::{Schedule, raised};
 use crate::{Failed, Inputs};
 use st_base::{Bytes, List, Name};
+use st_outside::{FailingCalls, copy_from};
 
 /// A file in memory.
 #[derive(Drop)]
@@ -22,9 +22,7 @@ pub struct InputFile {
 #[derive(Drop)]
 pub struct MemInputs {
     files: List<InputFile>,
-    schedule: Schedule,
-    faults: u64,
-    ghost small: { faults ≤ 18446744073709551615 },
+    calls: FailingCalls,
 }
 
 impl MemInputs {
@@ -39,24 +37,8 @@ impl MemInputs {
     {
         MemInputs {
             files,
-            schedule: Schedule { calls: 0, failing },
-            faults: 0,
+            calls: FailingCalls::new(failing),
         }
-    }
-
-    // Counts a call, and fails where it is listed.
-    fn count(&mut self) -> Result<(), Failed>
-        ensures listed { is_err result ≡ fails_next (mem_inputs_calls self.old) }
-        ensures counts { CountsCall (mem_inputs_calls self.old) (mem_inputs_calls self.new) }
-        ensures failed { OnErr result (Rose (mem_inputs_told self.old).faults (mem_inputs_told self.new).faults) }
-        ensures files { self.new.files ≡ self.old.files }
-        ensures faults { self.old.faults ≤ self.new.faults }
-    {
-        if self.schedule.count() {
-            self.faults = raised(self.faults);
-            return Err(Failed);
-        }
-        Ok(())
     }
 }
 
@@ -66,7 +48,7 @@ impl Inputs for MemInputs {
 
     ghost tells = { mem_inputs_told };
 
-    ghost counted = { λ inputs. inputs.small };
+    ghost counted = { λ inputs. inputs.calls.small };
 
     fn size(&mut self, name: &str) -> Result<Option<u64>, Failed>
         requires { IsTrue (is_name name.now) }
@@ -76,7 +58,7 @@ impl Inputs for MemInputs {
         ensures listed { is_err result ≡ fails_next (mem_inputs_calls self.old) }
         ensures counts { CountsCall (mem_inputs_calls self.old) (mem_inputs_calls self.new) }
     {
-        self.count()?;
+        self.calls.count_call(true)?;
         match bytes_named(self.files.as_slice(), name) {
             None => Ok(None),
             Some(bytes) => Ok(Some(bytes.len() as u64)),
@@ -93,7 +75,7 @@ impl Inputs for MemInputs {
         ensures listed { is_err result ≡ fails_next (mem_inputs_calls self.old) }
         ensures counts { CountsCall (mem_inputs_calls self.old) (mem_inputs_calls self.new) }
     {
-        self.count()?;
+        self.calls.count_call(true)?;
         match bytes_named(self.files.as_slice(), name) {
             None => Ok(0),
             Some(bytes) => Ok(copy_from(bytes, at, buffer)),
@@ -109,18 +91,4 @@ fn bytes_named<'a>(files: &'a [InputFile], name: &str) -> Option<&'a [u8]>
         .iter()
         .find(|file| file.name.as_bytes() == name.as_bytes())?;
     Some(file.bytes.as_slice())
-}
-
-// Copies the bytes from `at` on, as many as are there and fit, and answers how many.
-fn copy_from(bytes: &[u8], at: u64, buffer: &mut [u8]) -> usize
-    ensures reads { ReadsAt bytes.now at buffer.old buffer.new result }
-    ensures all { result ≡ min (length buffer.old) (length bytes.now - at) }
-{
-    if at >= bytes.len() as u64 {
-        return 0;
-    }
-    let rest = &bytes[at as usize..];
-    let n = rest.len().min(buffer.len());
-    buffer[..n].copy_from_slice(&rest[..n]);
-    n
 }

@@ -1,11 +1,11 @@
 ghost use Rattle.std.specs.Prelude.{◌≡◌, ◌≤◌, ◌<◌, List as Items, ℕ, [], length, IfOk, OnOk, OnErr, IsErr, IsTrue, IsFalse};
 ghost use Rattle.st_base.specs.Count.{Rose, greatest_count};
 ghost use Rattle.st_stream.specs.Sink.{AppendsFirst};
-ghost use Rattle.st_stream.specs.Schedule.{CountsCall, fails_next};
+ghost use Rattle.st_outside.specs.FailingCalls.{CountsCall, fails_next};
 
-use crate::schedule::{Schedule, raised};
 use crate::{Failed, Sink};
 use st_base::{Bytes, List};
+use st_outside::FailingCalls;
 use std::alloc::Global;
 
 /// A sink that keeps what is written. It fails at the calls that are listed, and else only where a second count,
@@ -13,10 +13,7 @@ use std::alloc::Global;
 #[derive(Drop)]
 pub struct MemSink {
     written: Bytes,
-    schedule: Schedule,
-    faults: u64,
-    starved: u64,
-    ghost small: { faults ≤ 18446744073709551615 },
+    calls: FailingCalls,
 }
 
 impl MemSink {
@@ -33,9 +30,7 @@ impl MemSink {
     {
         MemSink {
             written: Bytes::new(alloc),
-            schedule: Schedule { calls: 0, failing },
-            faults: 0,
-            starved: 0,
+            calls: FailingCalls::new(failing),
         }
     }
 
@@ -50,7 +45,7 @@ impl MemSink {
     pub fn starved(&self) -> u64
         ensures { result ≡ mem_sink_starved self.now }
     {
-        self.starved
+        self.calls.starved
     }
 }
 
@@ -59,7 +54,7 @@ impl Sink for MemSink {
 
     ghost tells = { mem_sink_told };
 
-    ghost counted = { λ sink. sink.small };
+    ghost counted = { λ sink. sink.calls.small };
 
     fn write(&mut self, bytes: &[u8]) -> Result<usize, Failed>
         ensures written { IsTrue (mem_sink_told self.old).known → IfOk result (AppendsFirst (mem_sink_told self.old).written (mem_sink_told self.new).written bytes.now) }
@@ -75,17 +70,10 @@ impl Sink for MemSink {
         ensures unlisted { IsFalse (fails_next (mem_sink_calls self.old)) → OnErr result (Rose (mem_sink_starved self.old) (mem_sink_starved self.new)) }
         ensures fed { OnOk result (mem_sink_starved self.new ≡ mem_sink_starved self.old) }
     {
-        if self.schedule.count() {
-            self.faults = raised(self.faults);
-            return Err(Failed);
-        }
+        self.calls.count_call(true)?;
         match self.written.extend_from_slice(bytes) {
             Ok(()) => Ok(bytes.len()),
-            Err(_) => {
-                self.faults = raised(self.faults);
-                self.starved = raised(self.starved);
-                Err(Failed)
-            }
+            Err(_) => Err(self.calls.starve()),
         }
     }
 }

@@ -1,11 +1,11 @@
 ghost use Rattle.std.specs.Prelude.{◌≡◌, ◌≤◌, ◌<◌, List as Items, ℕ, length, min, IfOk, OnErr, IsTrue, is_err};
 ghost use Rattle.st_base.specs.Count.{Rose, greatest_count};
 ghost use Rattle.st_stream.specs.Source.{TakesBytes};
-ghost use Rattle.st_stream.specs.Schedule.{CountsCall, fails_next};
+ghost use Rattle.st_outside.specs.FailingCalls.{CountsCall, fails_next};
 
-use crate::schedule::{Schedule, raised};
 use crate::{Failed, Source};
 use st_base::{Bytes, List};
+use st_outside::{FailingCalls, copy_from};
 
 /// A source of bytes in memory, which are known. It fails at the calls that are listed, and at no others, and takes no
 /// memory. A read gives all that is left and fits.
@@ -13,10 +13,8 @@ use st_base::{Bytes, List};
 pub struct MemSource {
     bytes: Bytes,
     given: usize,
-    schedule: Schedule,
-    faults: u64,
+    calls: FailingCalls,
     ghost within: { given ≤ length bytes },
-    ghost small: { faults ≤ 18446744073709551615 },
 }
 
 impl MemSource {
@@ -31,8 +29,7 @@ impl MemSource {
         MemSource {
             bytes,
             given: 0,
-            schedule: Schedule { calls: 0, failing },
-            faults: 0,
+            calls: FailingCalls::new(failing),
         }
     }
 }
@@ -42,7 +39,7 @@ impl Source for MemSource {
 
     ghost tells = { mem_source_told };
 
-    ghost counted = { λ source. source.small };
+    ghost counted = { λ source. source.calls.small };
 
     fn read(&mut self, buffer: &mut [u8]) -> Result<usize, Failed>
         ensures taken { IsTrue (mem_source_told self.old).known → IfOk result (TakesBytes (mem_source_told self.old).left (mem_source_told self.new).left buffer.old buffer.new) }
@@ -55,13 +52,8 @@ impl Source for MemSource {
         ensures listed { is_err result ≡ fails_next (mem_source_calls self.old) }
         ensures counts { CountsCall (mem_source_calls self.old) (mem_source_calls self.new) }
     {
-        if self.schedule.count() {
-            self.faults = raised(self.faults);
-            return Err(Failed);
-        }
-        let left = &self.bytes.as_slice()[self.given..];
-        let n = left.len().min(buffer.len());
-        buffer[..n].copy_from_slice(&left[..n]);
+        self.calls.count_call(true)?;
+        let n = copy_from(self.bytes.as_slice(), self.given as u64, buffer);
         self.given += n;
         Ok(n)
     }

@@ -3,11 +3,10 @@ ghost use Rattle.st_base.specs.Names.{is_name};
 ghost use Rattle.st_base.specs.Count.{Rose};
 ghost use Rattle.st_stream.specs.Inputs.{InputsUntouched, bytes_of};
 ghost use Rattle.st_stream.specs.FileRead.{file_read, IsFileWithin};
-ghost use Rattle.st_stream.specs.declared.reading.ReadFault.TheVariants.{Failed as failed_read, OutOfMemory as no_memory};
 
-use crate::{Failed, Inputs};
+use crate::{Inputs, ReadFault};
 use st_base::Bytes;
-use std::alloc::{AllocError, Global};
+use std::alloc::Global;
 
 // How many bytes are asked for at once.
 pub const PIECE_BYTES: usize = 65_536;
@@ -21,30 +20,6 @@ pub enum FileRead {
     TooLong,
     /// All of its bytes.
     Whole(Bytes),
-}
-
-/// Why a file or a source wasn't read.
-#[derive(Debug, Drop)]
-pub enum ReadFault {
-    /// The inputs or the source have failed.
-    Failed,
-    OutOfMemory,
-}
-
-impl From<Failed> for ReadFault {
-    ghost from_gives = { λ _ fault. fault ≡ failed_read };
-
-    fn from(_failed: Failed) -> ReadFault {
-        ReadFault::Failed
-    }
-}
-
-impl From<AllocError> for ReadFault {
-    ghost from_gives = { λ _ fault. fault ≡ no_memory };
-
-    fn from(_error: AllocError) -> ReadFault {
-        ReadFault::OutOfMemory
-    }
 }
 
 /// Reads a whole file of at most `limit` bytes. Its bytes are those that are read until as many are there as the inputs

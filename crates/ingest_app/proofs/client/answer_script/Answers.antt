@@ -2,6 +2,7 @@ use Rattle.std.proofs.Common.{◌≡◌, inl, inr, ⊎_elim, ◌+◌, ◌++◌, 
 use Rattle.std.proofs.lemmas.List.{map-append, take_all, take_more}
 use Rattle.st_base.specs.Count.{Rose}
 use Rattle.st_device.specs.Disk.{Image, IsHonest}
+use Rattle.st_device.proofs.Calls.{rose_later, rose_then}
 use Rattle.st_device.proofs.Moments.{passes_start, passes_then}
 use Rattle.log_engine.specs.Engine.{OpensTo}
 use Rattle.log_engine.specs.MarkStore.{StandsForState}
@@ -10,7 +11,7 @@ use Rattle.st_model.specs.declared.command.Asked.{Asked}
 use Rattle.st_model.specs.declared.state.ModelState.{ModelState}
 use Rattle.st_model.specs.Asked.{asked_of}
 use Rattle.cmd_text.specs.declared.script.Numbered.{Numbered}
-use Rattle.ingest_app.proofs.Along.{Along, along_grows, along_start, none_of, rose_later, rose_then}
+use Rattle.ingest_app.proofs.Along.{Along, along_grows, along_start, none_of}
 use Rattle.ingest_app.proofs.client.answer_script.Goals as goal
 
 pub loop-numbered-init : goal.loop-numbered-init

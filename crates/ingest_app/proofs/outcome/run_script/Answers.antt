@@ -19,7 +19,7 @@ returns-in-Ok-clause-ends g c =
     let opened = e.opened in
     if_ok_map (λ (outcome : Outcome). (opening : ModelState) → StandsForState c.in-Ok.engine.store opening → opening.place ≡ 0 → EndsAnswered name commands opening mid after outcome.status outcome.text)
     (λ (outcome : Outcome). EndsScript commands name before after outcome.status outcome.text) c.run_engine.result.0
-    (λ outcome ends. answered_ends name commands outcome.text before mid after opened.ops e.passes c.run_engine.ensures.passes opened.read e.crash outcome.status (ends (opening_of opened.ops) opened.stands refl))
+    (λ outcome ends. answered_ends name commands outcome.text before mid after opened.ops e.disk.passes c.run_engine.ensures.passes opened.read e.crash outcome.status (ends (opening_of opened.ops) opened.stands refl))
     c.run_engine.ensures.ends
 
 pub returns-in-Err-clause-ends : goal.returns-in-Err-clause-ends

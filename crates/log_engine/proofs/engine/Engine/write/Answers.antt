@@ -111,7 +111,7 @@ returns-clause-after g c = λ honest.
     ok_both c.append.result
     (λ (both : ((key : List ℕ) → newest_at new.newest key ≡ marks_after_all (newest_at mid.newest) c.in_ok-prepared.prepared.ops.items key) × IsAdvanced mid new (length c.in_ok-prepared.prepared.ops.items) c.in_ok-prepared.prepared.charge) (ready : IsReady c.append.new.self.wal (g.D.Disk.tells c.append.new.self.disk) × (operations c.append.new.self.wal (g.D.Disk.tells c.append.new.self.disk) ≡ operations c.args.self.now.wal (g.D.Disk.tells c.args.self.now.disk) ++ logged_record c.args.self.now.wal.log.at payload)).
     λ (state : ModelState) (h : StandsForState store state).
-    write_after c.args.self.now.wal store batch payload tied encoded (c.append.ensures.log honest) c.append.new.self.wal new c.in_ok-prepared.prepared.charge c.append.ensures.passes c.append.ensures.file ready.0 ready.1
+    write_after c.args.self.now.wal store batch payload tied encoded (c.append.ensures.log honest) c.append.new.self.wal new c.in_ok-prepared.prepared.charge c.append.ensures.disk.passes c.append.ensures.file ready.0 ready.1
     (same_advanced store mid new (length batch.ops) _ _ count made.unchanged both.1) (same_marks store.newest mid.newest new.newest (map logged_op batch.ops) _ ops made.unchanged.marks both.0) state h (unrefused state h))
     (ok_both c.append.result
     (λ (marks : (key : List ℕ) → newest_at new.newest key ≡ marks_after_all (newest_at mid.newest) c.in_ok-prepared.prepared.ops.items key) (numbers : IsAdvanced mid new (length c.in_ok-prepared.prepared.ops.items) c.in_ok-prepared.prepared.charge). (marks, numbers)) c.append.ensures.marks c.append.ensures.numbers)
@@ -133,7 +133,7 @@ returns-clause-tied g c = λ honest running.
     either_answer c.append.result
     (ok_both c.append.result
     (λ (both : ((key : List ℕ) → newest_at new.newest key ≡ marks_after_all (newest_at mid.newest) c.in_ok-prepared.prepared.ops.items key) × IsAdvanced mid new (length c.in_ok-prepared.prepared.ops.items) c.in_ok-prepared.prepared.charge) (ready : IsReady c.append.new.self.wal (g.D.Disk.tells c.append.new.self.disk) × (operations c.append.new.self.wal (g.D.Disk.tells c.append.new.self.disk) ≡ operations c.args.self.now.wal (g.D.Disk.tells c.args.self.now.disk) ++ logged_record c.args.self.now.wal.log.at payload)).
-    write_tied c.args.self.now.wal store batch payload tied encoded (c.append.ensures.log honest) c.append.new.self.wal new c.in_ok-prepared.prepared.charge c.append.ensures.passes c.append.ensures.file ready.0 ready.1
+    write_tied c.args.self.now.wal store batch payload tied encoded (c.append.ensures.log honest) c.append.new.self.wal new c.in_ok-prepared.prepared.charge c.append.ensures.disk.passes c.append.ensures.file ready.0 ready.1
     (same_advanced store mid new (length batch.ops) _ _ count made.unchanged both.1) (same_marks store.newest mid.newest new.newest (map logged_op batch.ops) _ ops made.unchanged.marks both.0))
     (ok_both c.append.result
     (λ (marks : (key : List ℕ) → newest_at new.newest key ≡ marks_after_all (newest_at mid.newest) c.in_ok-prepared.prepared.ops.items key) (numbers : IsAdvanced mid new (length c.in_ok-prepared.prepared.ops.items) c.in_ok-prepared.prepared.charge). (marks, numbers)) c.append.ensures.marks c.append.ensures.numbers)

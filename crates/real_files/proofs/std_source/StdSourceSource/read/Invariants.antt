@@ -3,4 +3,4 @@ use Rattle.real_files.proofs.std_source.StdSourceSource.read.Given as goal
 
 -- no fault is counted before the last try
 abbrev pub invariant-loop : goal.invariant-loop
-invariant-loop g l = l.self.faults ≡ l.fn.self.faults
+invariant-loop g l = l.self.faults.count ≡ l.fn.self.faults.count
