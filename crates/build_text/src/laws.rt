@@ -19,9 +19,13 @@ pub fn word_is_read()
 pub fn build_text_is_read()
     ensures read { (entries : List Entry) → 0 < length entries → AreRows entries → Each IsBuildEntry entries
         → build_of (λ _. true) (build_text entries) ≡ Ok entries }
-    ensures fitting { (fits : List Entry → Bool) (entries : List Entry) → 0 < length entries → AreRows entries → Each IsBuildEntry entries
+    ensures fitting { (fits : List Entry → Bool) (entries : List Entry) → 0 < length entries → AreRows entries
+        → Each IsBuildEntry entries
         → ((count : ℕ) → IsTrue (fits (take count entries))) → build_of fits (build_text entries) ≡ Ok entries }
-    ensures only { (fits : List Entry → Bool) (text : List ℕ) (entries : List Entry) → build_of fits text ≡ Ok entries → text ≡ build_text entries }
-    ensures rows { (fits : List Entry → Bool) (text : List ℕ) (entries : List Entry) → build_of fits text ≡ Ok entries → AreRows entries }
-    ensures entries { (fits : List Entry → Bool) (text : List ℕ) (entries : List Entry) → build_of fits text ≡ Ok entries → Each IsBuildEntry entries }
+    ensures only { (fits : List Entry → Bool) (text : List ℕ) (entries : List Entry) → build_of fits text ≡ Ok entries
+        → text ≡ build_text entries }
+    ensures rows { (fits : List Entry → Bool) (text : List ℕ) (entries : List Entry) → build_of fits text ≡ Ok entries
+        → AreRows entries }
+    ensures entries { (fits : List Entry → Bool) (text : List ℕ) (entries : List Entry)
+        → build_of fits text ≡ Ok entries → Each IsBuildEntry entries }
 {}

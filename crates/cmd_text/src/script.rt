@@ -40,7 +40,8 @@ fn read_line(
 ) -> Result<(), ScriptFault>
     ensures ok { OnOk result (with_line commands.old line text.now ≡ Ok commands.new) }
     ensures within { length commands.old ≤ COMMANDS_PER_CLIENT → length commands.new ≤ COMMANDS_PER_CLIENT }
-    ensures fault { (number : ℕ) → IsErrOf result (ScriptFault.Line number) → with_line commands.old line text.now ≡ Err number }
+    ensures fault { (number : ℕ) → IsErrOf result (ScriptFault.Line number)
+        → with_line commands.old line text.now ≡ Err number }
 {
     if !is_command_line(text) {
         return Ok(());

@@ -1,8 +1,8 @@
 // Recovery.
 use crate::disks::{FATES, left_by};
 use crate::puts::{append_both, one_put};
-use st_device::{Disk, MemDisk};
 use log_recover::{OpenFault, recover};
+use st_device::{Disk, MemDisk};
 use st_wal::LogRecord;
 use std::alloc::Global;
 use std::test::Fail;

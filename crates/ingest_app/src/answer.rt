@@ -10,9 +10,9 @@ ghost use Rattle.st_model.specs.Answer.{get_answer};
 ghost use Rattle.ingest_app.specs.Answer.{EngineSteps, answered_call};
 ghost use Rattle.ingest_app.specs.Op.{FitsLimits};
 
+use log_engine::Engine;
 use st_base::{Family, Key};
 use st_device::Disk;
-use log_engine::Engine;
 use st_model::{Batch, Command, Refusal, Reply};
 use std::alloc::AllocError;
 

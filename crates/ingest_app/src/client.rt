@@ -12,9 +12,9 @@ ghost use Rattle.ingest_app.specs.Op.{FitsLimits};
 
 use crate::answer::answer_command;
 use cmd_text::{Script, push_reply};
+use log_engine::Engine;
 use st_base::Bytes;
 use st_device::Disk;
-use log_engine::Engine;
 use st_model::Command;
 use std::alloc::{AllocError, Global};
 

@@ -16,9 +16,9 @@ ghost use Rattle.st_stream.specs.FileRead.{file_read, IsFileWithin};
 use crate::client::{CAPACITY, answer_script};
 use crate::status::Status;
 use cmd_text::{Script, ScriptFault, read_script};
+use log_engine::{Engine, OpenFault, Options};
 use st_base::{Bytes, CLIENT_FILE_BYTES, is_name};
 use st_device::Disk;
-use log_engine::{Engine, OpenFault, Options};
 use st_stream::{FileRead, Inputs, ReadFault, read_file};
 use std::alloc::{AllocError, Global};
 

@@ -14,11 +14,11 @@ ghost use Rattle.log_engine.specs.Newest.{HasRoom, newest_at};
 ghost use Rattle.log_engine.specs.Op.{marks_after_all};
 
 use crate::ChangeFault;
-use crate::store::{PreparedWrite, MarkStore};
+use crate::store::{MarkStore, PreparedWrite};
+use log_recover::{OpenFault, recover};
 use st_base::{Family, Key, Value};
 use st_device::Disk;
 use st_model::{Batch, Refusal, Reply};
-use log_recover::{OpenFault, recover};
 use st_wal::{LogRecord, Operation, Wal};
 use std::alloc::Global;
 
@@ -59,16 +59,26 @@ impl<D: Disk> Engine<D> {
     pub fn open(alloc: Global, mut disk: D, options: Options) -> Result<Engine<D>, (D, OpenFault)>
         // The store stands for the state that an opening makes of the contents that the disk reads.
         ensures opened { IfOk result (λ engine. IsOpened (D.tells disk) options.behind engine.store) }
-        ensures tied { IfOk result (λ engine. IsHonest (D.tells disk) → IsTied engine.wal engine.store (D.tells engine.disk)) }
-        ensures options { IfOk result (λ engine. (engine.store.behind ≡ options.behind) × (engine.store.capacity ≡ options.capacity)) }
+        ensures tied { IfOk result
+            (λ engine. IsHonest (D.tells disk) → IsTied engine.wal engine.store (D.tells engine.disk)) }
+        ensures options { IfOk result
+            (λ engine. (engine.store.behind ≡ options.behind) × (engine.store.capacity ≡ options.capacity)) }
         ensures running { IfOk result (λ engine. engine.stopped ≡ None) }
-        ensures damage { IfErr result (λ back. IsHonest (D.tells disk) → IsDamageOf (opens (D.tells disk).reads) back.1) }
+        ensures damage { IfErr result
+            (λ back. IsHonest (D.tells disk) → IsDamageOf (opens (D.tells disk).reads) back.1) }
 
         // Each image of a crash within the call is one that a crash at its beginning could leave, or opens to what the
         // disk read then. After Ok each does the latter.
-        ensures crash { IfOk result (λ engine. IsHonest (D.tells disk) → Leaves (λ image. (D.tells disk).now image ⊎ (opens image ≡ opens (D.tells disk).reads)) (D.tells disk) (D.tells engine.disk)) }
-        ensures crash_err { IfErr result (λ back. IsHonest (D.tells disk) → Leaves (λ image. (D.tells disk).now image ⊎ (opens image ≡ opens (D.tells disk).reads)) (D.tells disk) (D.tells back.0)) }
-        ensures after { IfOk result (λ engine. IsHonest (D.tells disk) → (image : Image) → (D.tells engine.disk).now image → opens image ≡ opens (D.tells disk).reads) }
+        ensures crash { IfOk result
+            (λ engine. IsHonest (D.tells disk)
+            → Leaves (λ image. (D.tells disk).now image ⊎ (opens image ≡ opens (D.tells disk).reads)) (D.tells disk)
+            (D.tells engine.disk)) }
+        ensures crash_err { IfErr result
+            (λ back. IsHonest (D.tells disk)
+            → Leaves (λ image. (D.tells disk).now image ⊎ (opens image ≡ opens (D.tells disk).reads)) (D.tells disk)
+            (D.tells back.0)) }
+        ensures after { IfOk result (λ engine. IsHonest (D.tells disk) → (image : Image)
+            → (D.tells engine.disk).now image → opens image ≡ opens (D.tells disk).reads) }
 
         ensures disk { IfOk result (λ engine. ChangesDisk (D.tells disk) (D.tells engine.disk) (D.tells engine.disk).top ⊥) }
         ensures disk_err { IfErr result
@@ -112,8 +122,10 @@ impl<D: Disk> Engine<D> {
 
     /// What the key reads now. The refusals are that of a family that isn't there, and want of memory.
     pub fn read_now(&self, family: &Family, key: &Key) -> Result<Option<Value>, ChangeFault>
-        ensures ok { IfOk result (λ value. (state : ModelState) → StandsForState self.now.store state → get_answer state state.last family.now key.now ≡ found value) }
-        ensures refused { IfErr result (λ refusal. (state : ModelState) → StandsForState self.now.store state → IsFirst (unknown_families state (family.now ∷ [])) refusal) }
+        ensures ok { IfOk result (λ value. (state : ModelState) → StandsForState self.now.store state
+            → get_answer state state.last family.now key.now ≡ found value) }
+        ensures refused { IfErr result (λ refusal. (state : ModelState) → StandsForState self.now.store state
+            → IsFirst (unknown_families state (family.now ∷ [])) refusal) }
         ensures no_stop { IfErr result (λ refusal. is_stop (Reply.Refused refusal) ≡ false) }
     {
         self.store.read(family, key)
@@ -131,14 +143,18 @@ impl<D: Disk> Engine<D> {
         requires last { self.old.store.last + length ops.items ≤ 72057594037927935 }
         requires place { self.old.store.place < 72057594037927935 }
         ensures log { IsHonest (D.tells self.old.disk) → OnlyFile self.old.wal.log.file
-            (λ this. IsWithOrWithout (operations self.old.wal (D.tells self.old.disk)) (logged_record self.old.wal.log.at encoded.now) (read_as_log this))
+            (λ this. IsWithOrWithout (operations self.old.wal (D.tells self.old.disk))
+            (logged_record self.old.wal.log.at encoded.now) (read_as_log this))
             (D.tells self.old.disk) (D.tells self.new.disk) }
         ensures ready { IsHonest (D.tells self.old.disk) → OnOk result (IsReady self.new.wal (D.tells self.new.disk)
-            × (operations self.new.wal (D.tells self.new.disk) ≡ operations self.old.wal (D.tells self.old.disk) ++ logged_record self.old.wal.log.at encoded.now)) }
+            × (operations self.new.wal (D.tells self.new.disk)
+            ≡ operations self.old.wal (D.tells self.old.disk) ++ logged_record self.old.wal.log.at encoded.now)) }
         ensures file { self.new.wal.log.file ≡ self.old.wal.log.file }
-        ensures marks { OnOk result ((key : List ℕ) → newest_at self.new.store.newest key ≡ marks_after_all (newest_at self.old.store.newest) ops.items key) }
+        ensures marks { OnOk result ((key : List ℕ)
+            → newest_at self.new.store.newest key ≡ marks_after_all (newest_at self.old.store.newest) ops.items key) }
         ensures numbers { OnOk result (IsAdvanced self.old.store self.new.store (length ops.items) charge) }
-        ensures wrote { IfOk result (λ wrote. wrote ≡ record { place = self.new.store.place; first = self.old.store.last + 1; last = self.new.store.last }) }
+        ensures wrote { IfOk result (λ wrote. wrote
+            ≡ record { place = self.new.store.place; first = self.old.store.last + 1; last = self.new.store.last }) }
         ensures running { OnOk result (self.new.stopped ≡ self.old.stopped) }
         ensures unchanged { OnErr result (self.new.store ≡ self.old.store) }
         ensures fault { IfErr result (λ refusal. refusal ≡ Refusal.DiskFault) }
@@ -160,25 +176,37 @@ impl<D: Disk> Engine<D> {
     /// the store full, a disk fault. All memory is taken before the first device call.
     pub fn write(&mut self, batch: &Batch) -> Result<AcceptedWrite, ChangeFault>
         requires limits { IsWrite batch.now.ops }
-        requires tied { IsHonest (D.tells self.old.disk) → self.old.stopped ≡ None → IsTied self.old.wal self.old.store (D.tells self.old.disk) }
+        requires tied { IsHonest (D.tells self.old.disk) → self.old.stopped ≡ None
+            → IsTied self.old.wal self.old.store (D.tells self.old.disk) }
 
         // An accepted write is the model's, and the engine then stands for the state after it.
-        ensures accepted { OnOk result ((state : ModelState) → StandsForState self.old.store state → StandsForState self.new.store (state_written state batch.now)) }
-        ensures numbers { IfOk result (λ wrote. (state : ModelState) → StandsForState self.old.store state → IsAccepted self.old.store.capacity state batch.now wrote) }
+        ensures accepted { OnOk result ((state : ModelState) → StandsForState self.old.store state
+            → StandsForState self.new.store (state_written state batch.now)) }
+        ensures numbers { IfOk result (λ wrote. (state : ModelState) → StandsForState self.old.store state
+            → IsAccepted self.old.store.capacity state batch.now wrote) }
         // A refused one is refused by the first refusal that holds, and changes no answer.
-        ensures refused { IfErr result (λ refusal. (state : ModelState) → StandsForState self.old.store state → IsFirst (write_refusals state self.old.store.capacity batch.now.ops) refusal) }
-        ensures unchanged { OnErr result ((state : ModelState) → StandsForState self.old.store state → StandsForState self.new.store state) }
+        ensures refused { IfErr result (λ refusal. (state : ModelState) → StandsForState self.old.store state
+            → IsFirst (write_refusals state self.old.store.capacity batch.now.ops) refusal) }
+        ensures unchanged { OnErr result
+            ((state : ModelState) → StandsForState self.old.store state → StandsForState self.new.store state) }
 
         // Each image of a crash within the call opens to the contents before the write or after it; after Ok to the latter.
-        ensures crash { IsHonest (D.tells self.old.disk) → self.old.stopped ≡ None → (state : ModelState) → StandsForState self.old.store state → Leaves (λ image. OpensTo state image ⊎ OpensTo (state_written state batch.now) image) (D.tells self.old.disk) (D.tells self.new.disk) }
-        ensures after { IsHonest (D.tells self.old.disk) → OnOk result ((state : ModelState) → StandsForState self.old.store state → (image : Image) → (D.tells self.new.disk).now image → OpensTo (state_written state batch.now) image) }
-        ensures tied { IsHonest (D.tells self.old.disk) → self.new.stopped ≡ None → IsTied self.new.wal self.new.store (D.tells self.new.disk) }
+        ensures crash { IsHonest (D.tells self.old.disk) → self.old.stopped ≡ None → (state : ModelState)
+            → StandsForState self.old.store state
+            → Leaves (λ image. OpensTo state image ⊎ OpensTo (state_written state batch.now) image)
+            (D.tells self.old.disk) (D.tells self.new.disk) }
+        ensures after { IsHonest (D.tells self.old.disk)
+            → OnOk result ((state : ModelState) → StandsForState self.old.store state → (image : Image)
+            → (D.tells self.new.disk).now image → OpensTo (state_written state batch.now) image) }
+        ensures tied { IsHonest (D.tells self.old.disk) → self.new.stopped ≡ None
+            → IsTied self.new.wal self.new.store (D.tells self.new.disk) }
 
         // A disk fault stops the engine, which makes no further device call.
         ensures stopped { IsErrOf result Refusal.Stopped ↔ IsSome self.old.stopped }
         ensures fault { IsErrOf result Refusal.DiskFault → self.new.stopped ≡ Some (D.tells self.new.disk).faults }
         ensures stop_unchanged { (IsErrOf result Refusal.DiskFault → ⊥) → self.new.stopped ≡ self.old.stopped }
-        ensures untouched { IfErr result (λ refusal. (refusal ≡ Refusal.DiskFault → ⊥) → self.new.disk ≡ self.old.disk) }
+        ensures untouched { IfErr result
+            (λ refusal. (refusal ≡ Refusal.DiskFault → ⊥) → self.new.disk ≡ self.old.disk) }
 
         ensures options { (self.new.store.behind ≡ self.old.store.behind) × (self.new.store.capacity ≡ self.old.store.capacity) }
         ensures disk { ChangesDisk (D.tells self.old.disk) (D.tells self.new.disk) (D.tells self.old.disk).top

@@ -11,7 +11,7 @@ mod newest;
 mod ops;
 mod store;
 
-pub use engine::{Engine, Options, AcceptedWrite};
+pub use engine::{AcceptedWrite, Engine, Options};
 pub use log_recover::OpenFault;
 
 /// Why a change isn't made.

@@ -68,7 +68,8 @@ impl Newest {
 
     /// Sets the mark of a key that has a place, or takes it away.
     pub fn set(&mut self, key: &Key, mark: Option<Mark>)
-        ensures set { HasRoom self.old key.now → (other : List ℕ) → newest_at self.new other ≡ (if same key.now other then mark else newest_at self.old other) }
+        ensures set { HasRoom self.old key.now → (other : List ℕ)
+            → newest_at self.new other ≡ (if same key.now other then mark else newest_at self.old other) }
         ensures rooms { (other : List ℕ) → HasRoom self.old other → HasRoom self.new other }
     {
         if let Some(slot) = self.map.get_mut(key) {

@@ -16,7 +16,7 @@ ghost use Rattle.st_wal.specs.Batch.{batch_of};
 
 use crate::newest::Newest;
 use crate::ops::{charge_with, first_stranger, logged_ops};
-use crate::{ChangeFault, Options, AcceptedWrite};
+use crate::{AcceptedWrite, ChangeFault, Options};
 use st_base::{Family, Key, List, Mark, Value};
 use st_model::{Op, Refusal, Reply};
 use st_wal::{LogRecord, Logged, Operation};
@@ -61,7 +61,8 @@ fn kept_mark(behind: bool, mark: Mark) -> Option<Mark>
 
 // The newest marks that these operations leave.
 fn newest_of(alloc: Global, operations: List<Logged>, behind: bool) -> Result<Newest, AllocError>
-    ensures { IfOk result (λ newest. (key : List ℕ) → newest_at newest key ≡ shown behind (value_at (written_marks operations) key)) }
+    ensures { IfOk result
+        (λ newest. (key : List ℕ) → newest_at newest key ≡ shown behind (value_at (written_marks operations) key)) }
 {
     let mut newest = Newest::new(alloc);
     for logged in operations.into_vec() {
@@ -92,7 +93,8 @@ impl MarkStore {
         operations: List<Logged>,
         options: Options,
     ) -> Result<MarkStore, AllocError>
-        ensures stands { IfOk result (λ store. StandsForState store (opened (contents_of options.behind operations) (known_of operations))) }
+        ensures stands { IfOk result
+            (λ store. StandsForState store (opened (contents_of options.behind operations) (known_of operations))) }
         ensures holds { IfOk result (λ store. HoldsOperations store operations) }
         ensures options { IfOk result (λ store. (store.behind ≡ options.behind) × (store.capacity ≡ options.capacity)) }
     {
@@ -112,8 +114,11 @@ impl MarkStore {
     // The first refusal that holds of a write.
     fn first_refusal(&self, ops: &[Op]) -> Result<Option<Refusal>, AllocError>
         ensures no_stop { IfOk result (λ refusal. IfSome refusal (λ refusal. is_stop (Reply.Refused refusal) ≡ false)) }
-        ensures room { IfOk result (λ refusal. IfNone refusal ((self.now.last + length ops.now ≤ GREATEST_NUMBER) × (self.now.place < GREATEST_NUMBER))) }
-        ensures first { IfOk result (λ refusal. (state : ModelState) → StandsForState self.now state → refusal ≡ slice_get (write_refusals state self.now.capacity ops.now) 0) }
+        ensures room { IfOk result
+            (λ refusal. IfNone refusal
+            ((self.now.last + length ops.now ≤ GREATEST_NUMBER) × (self.now.place < GREATEST_NUMBER))) }
+        ensures first { IfOk result (λ refusal. (state : ModelState) → StandsForState self.now state
+            → refusal ≡ slice_get (write_refusals state self.now.capacity ops.now) 0) }
     {
         if let Some(family) = first_stranger(ops) {
             return Ok(Some(Refusal::UnknownFamily(family.clone()?)));
@@ -132,8 +137,10 @@ impl MarkStore {
 
     /// What the key reads. The one refusal of the store's own is that of a family that isn't there.
     pub fn read(&self, family: &Family, key: &Key) -> Result<Option<Value>, ChangeFault>
-        ensures ok { IfOk result (λ value. (state : ModelState) → StandsForState self.now state → get_answer state state.last family.now key.now ≡ found value) }
-        ensures refused { IfErr result (λ refusal. (state : ModelState) → StandsForState self.now state → IsFirst (unknown_families state (family.now ∷ [])) refusal) }
+        ensures ok { IfOk result (λ value. (state : ModelState) → StandsForState self.now state
+            → get_answer state state.last family.now key.now ≡ found value) }
+        ensures refused { IfErr result (λ refusal. (state : ModelState) → StandsForState self.now state
+            → IsFirst (unknown_families state (family.now ∷ [])) refusal) }
         ensures no_stop { IfErr result (λ refusal. is_stop (Reply.Refused refusal) ≡ false) }
     {
         if !family.is_default() {
@@ -158,14 +165,18 @@ impl MarkStore {
     pub fn prepare(&mut self, alloc: Global, ops: &[Op]) -> Result<PreparedWrite, ChangeFault>
         requires { IsWrite ops.now }
         ensures unchanged { IsSameStore self.old self.new }
-        ensures encoded { IfOk result (λ prepared. batch_of prepared.encoded ≡ Some (record { first = self.old.last + 1; operations = map logged_op ops.now })) }
+        ensures encoded { IfOk result (λ prepared. batch_of prepared.encoded
+            ≡ Some (record { first = self.old.last + 1; operations = map logged_op ops.now })) }
         ensures ops { IfOk result (λ prepared. prepared.ops.items ≡ map logged_op ops.now) }
-        ensures room { IfOk result (λ prepared. Each (λ operation. HasRoom self.new.newest operation.1) prepared.ops.items) }
+        ensures room { IfOk result
+            (λ prepared. Each (λ operation. HasRoom self.new.newest operation.1) prepared.ops.items) }
         ensures charge { IfOk result (λ prepared. prepared.charge ≡ add_charge self.old.charge (write_charge ops.now)) }
         ensures last { OnOk result (self.new.last + length ops.now ≤ GREATEST_NUMBER) }
         ensures place { OnOk result (self.new.place < GREATEST_NUMBER) }
-        ensures unrefused { OnOk result ((state : ModelState) → StandsForState self.old state → slice_get (write_refusals state self.old.capacity ops.now) 0 ≡ None) }
-        ensures refused { IfErr result (λ refusal. (state : ModelState) → StandsForState self.old state → IsFirst (write_refusals state self.old.capacity ops.now) refusal) }
+        ensures unrefused { OnOk result ((state : ModelState) → StandsForState self.old state
+            → slice_get (write_refusals state self.old.capacity ops.now) 0 ≡ None) }
+        ensures refused { IfErr result (λ refusal. (state : ModelState) → StandsForState self.old state
+            → IsFirst (write_refusals state self.old.capacity ops.now) refusal) }
         ensures no_stop { IfErr result (λ refusal. is_stop (Reply.Refused refusal) ≡ false) }
     {
         if let Some(refusal) = self.first_refusal(ops)? {
@@ -186,7 +197,8 @@ impl MarkStore {
         requires room { Each (λ operation. HasRoom self.old.newest operation.1) operations.items }
         requires last { self.old.last + length operations.items ≤ GREATEST_NUMBER }
         requires place { self.old.place < GREATEST_NUMBER }
-        ensures marks { (key : List ℕ) → newest_at self.new.newest key ≡ marks_after_all (newest_at self.old.newest) operations.items key }
+        ensures marks { (key : List ℕ)
+            → newest_at self.new.newest key ≡ marks_after_all (newest_at self.old.newest) operations.items key }
         ensures numbers { IsAdvanced self.old self.new (length operations.items) charge }
         ensures wrote { result ≡ record { place = self.new.place; first = self.old.last + 1; last = self.new.last } }
     {

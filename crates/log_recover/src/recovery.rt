@@ -34,7 +34,8 @@ fn read_log<D: Disk>(alloc: Global, disk: &mut D) -> Result<(List<Logged>, Wal),
     requires marked { IsHonest (D.tells disk.old) → IsSome ((D.tells disk.old).reads MARK_FILE) }
     ensures ok { IsHonest (D.tells disk.old) → IfOk result (λ read. opens (D.tells disk.old).reads ≡ Ok read.0) }
     ensures store { IsHonest (D.tells disk.old) → IfOk result (λ read. IsStore read.1 (D.tells disk.new)) }
-    ensures operations { IsHonest (D.tells disk.old) → IfOk result (λ read. operations read.1 (D.tells disk.new) ≡ read.0) }
+    ensures operations { IsHonest (D.tells disk.old)
+        → IfOk result (λ read. operations read.1 (D.tells disk.new) ≡ read.0) }
     ensures damage { IsHonest (D.tells disk.old) → IfErr result (IsDamageOf (opens (D.tells disk.old).reads)) }
     ensures disk { ReadsDisk (D.tells disk.old) (D.tells disk.new) (IsErrOf result OpenFault.DiskFault) }
 {
@@ -53,13 +54,17 @@ pub fn recover<D: Disk>(alloc: Global, disk: &mut D) -> Result<(List<Logged>, Wa
     // What is opened is what the disk reads.
     ensures ok { IsHonest (D.tells disk.old) → IfOk result (λ read. opens (D.tells disk.old).reads ≡ Ok read.0) }
     ensures store { IsHonest (D.tells disk.old) → IfOk result (λ read. IsStore read.1 (D.tells disk.new)) }
-    ensures operations { IsHonest (D.tells disk.old) → IfOk result (λ read. operations read.1 (D.tells disk.new) ≡ read.0) }
+    ensures operations { IsHonest (D.tells disk.old)
+        → IfOk result (λ read. operations read.1 (D.tells disk.new) ≡ read.0) }
     ensures damage { IsHonest (D.tells disk.old) → IfErr result (IsDamageOf (opens (D.tells disk.old).reads)) }
 
     // Each image of a crash within the call is one that a crash at its beginning could leave, or opens to what the disk
     // read then. After Ok each does the latter.
-    ensures crash { IsHonest (D.tells disk.old) → Leaves (λ image. (D.tells disk.old).now image ⊎ (opens image ≡ opens (D.tells disk.old).reads)) (D.tells disk.old) (D.tells disk.new) }
-    ensures after { IsHonest (D.tells disk.old) → OnOk result ((image : Image) → (D.tells disk.new).now image → opens image ≡ opens (D.tells disk.old).reads) }
+    ensures crash { IsHonest (D.tells disk.old)
+        → Leaves (λ image. (D.tells disk.old).now image ⊎ (opens image ≡ opens (D.tells disk.old).reads))
+        (D.tells disk.old) (D.tells disk.new) }
+    ensures after { IsHonest (D.tells disk.old)
+        → OnOk result ((image : Image) → (D.tells disk.new).now image → opens image ≡ opens (D.tells disk.old).reads) }
 
     ensures disk { ChangesDisk (D.tells disk.old) (D.tells disk.new) (D.tells disk.new).top (IsErrOf result OpenFault.DiskFault) }
 {

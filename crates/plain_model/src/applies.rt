@@ -120,7 +120,8 @@ fn with_op(
     number: u64,
     op: &Op,
 ) -> Result<List<(Family, ModelFamily)>, AllocError>
-    ensures { IfOk result (λ next. next ≡ changed_at families (op_family op.now) (with_write (op_entry number op.now))) }
+    ensures { IfOk result
+        (λ next. next ≡ changed_at families (op_family op.now) (with_write (op_entry number op.now))) }
 {
     let mut next = List::new(alloc);
     for (name, family) in families.into_vec() {

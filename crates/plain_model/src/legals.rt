@@ -75,7 +75,8 @@ fn are_answered_at(
     place: u64,
 ) -> Result<bool, AllocError>
     ensures { IfOk result (λ holds.
-        IsTrue holds ↔ All (λ call. place_spoken_of call ≡ place → IsReply state.now capacity call.asked call.reply) calls.now) }
+        IsTrue holds
+        ↔ All (λ call. place_spoken_of call ≡ place → IsReply state.now capacity call.asked call.reply) calls.now) }
 {
     for call in calls {
         if !is_answered_at(state, capacity, call, place)? {
@@ -118,7 +119,8 @@ fn are_answered(
     requires among { All (Contains calls.now) accepted.now }
     requires within { All (λ call. call.place ≤ length accepted.now) calls.now }
     ensures { IfOk result (λ holds. IsTrue holds ↔ All (λ call.
-        IsReply (fold after_call opening.now (take (place_spoken_of call) accepted.now)) capacity call.asked call.reply) calls.now) }
+        IsReply (fold after_call opening.now (take (place_spoken_of call) accepted.now)) capacity call.asked call.reply)
+        calls.now) }
 {
     let mut state = opening.clone()?;
     for (place, change) in accepted.iter().enumerate() {
@@ -167,7 +169,8 @@ pub fn legal(
     input_faults: u64,
     disk_failed: bool,
 ) -> Result<bool, AllocError>
-    ensures { IfOk result (λ holds. IsTrue holds ↔ IsLegal opening.now capacity transcripts.now input_faults disk_failed) }
+    ensures { IfOk result
+        (λ holds. IsTrue holds ↔ IsLegal opening.now capacity transcripts.now input_faults disk_failed) }
 {
     let calls = all_calls(alloc, transcripts)?;
     let accepted = accepted_calls(alloc, transcripts)?;

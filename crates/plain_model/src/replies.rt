@@ -29,7 +29,8 @@ fn family_of<'a>(state: &'a ModelState, name: &Family) -> Option<&'a ModelFamily
 
 // The first family that an operation names and that isn't there.
 fn first_unknown<'a>(state: &ModelState, ops: &'a [Op]) -> Option<&'a Family>
-    ensures { option_copied result ≡ slice_get (filter (λ name. not (has_family state.now name)) (map op_family ops.now)) 0 }
+    ensures { option_copied result
+        ≡ slice_get (filter (λ name. not (has_family state.now name)) (map op_family ops.now)) 0 }
 {
     for op in ops {
         let name = op_family(op);

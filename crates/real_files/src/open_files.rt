@@ -36,7 +36,9 @@ impl OpenFiles {
     fn slot_of(&self, file: u64) -> Option<usize>
         ensures { IfSome result (λ slot. slot < 16) }
     {
-        self.slots.iter().position(|slot| matches!(slot, Some(opened) if opened.file == file))
+        self.slots
+            .iter()
+            .position(|slot| matches!(slot, Some(opened) if opened.file == file))
     }
 
     /// The file, if it is open.

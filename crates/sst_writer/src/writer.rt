@@ -65,7 +65,8 @@ impl SstFileWriter {
         ensures ok { OnOk result (self.new ≡ self.old ++ entry_with key.now (mark_of mark.entry) ∷ []) }
         ensures fits { OnOk result (length (written_table External self.new) ≤ greatest_size External) }
         ensures not_rising { IsErrOf result WriterFault.NotRising ↔ IsFalse (rises_to self.old key.now) }
-        ensures too_large { result ≡ Err WriterFault.TooLarge → greatest_size External < length (written_table External (self.old ++ entry_with key.now (mark_of mark.entry) ∷ [])) }
+        ensures too_large { result ≡ Err WriterFault.TooLarge → greatest_size External
+            < length (written_table External (self.old ++ entry_with key.now (mark_of mark.entry) ∷ [])) }
         ensures rows { MayBeTable External self.new }
         ensures err { OnErr result (self.new ≡ self.old) }
     {
@@ -95,7 +96,8 @@ impl SstFileWriter {
         ensures ok { OnOk result (self.new ≡ self.old ++ entry_with key.now (Put value.now) ∷ []) }
         ensures fits { OnOk result (length (written_table External self.new) ≤ greatest_size External) }
         ensures not_rising { IsErrOf result WriterFault.NotRising ↔ IsFalse (rises_to self.old key.now) }
-        ensures too_large { result ≡ Err WriterFault.TooLarge → greatest_size External < length (written_table External (self.old ++ entry_with key.now (Put value.now) ∷ [])) }
+        ensures too_large { result ≡ Err WriterFault.TooLarge → greatest_size External
+            < length (written_table External (self.old ++ entry_with key.now (Put value.now) ∷ [])) }
         ensures rows { MayBeTable External self.new }
         ensures err { OnErr result (self.new ≡ self.old) }
     {
@@ -107,7 +109,8 @@ impl SstFileWriter {
         ensures ok { OnOk result (self.new ≡ self.old ++ entry_with key.now Gone ∷ []) }
         ensures fits { OnOk result (length (written_table External self.new) ≤ greatest_size External) }
         ensures not_rising { IsErrOf result WriterFault.NotRising ↔ IsFalse (rises_to self.old key.now) }
-        ensures too_large { result ≡ Err WriterFault.TooLarge → greatest_size External < length (written_table External (self.old ++ entry_with key.now Gone ∷ [])) }
+        ensures too_large { result ≡ Err WriterFault.TooLarge
+            → greatest_size External < length (written_table External (self.old ++ entry_with key.now Gone ∷ [])) }
         ensures rows { MayBeTable External self.new }
         ensures err { OnErr result (self.new ≡ self.old) }
     {

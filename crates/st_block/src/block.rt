@@ -102,7 +102,8 @@ impl Block {
     /// at the end. It reads that one entry.
     pub fn read<'a>(&'a self, at: usize, scratch: &mut Scratch) -> Option<BlockEntry<'a>>
         requires { IsReadableAt self.now at scratch.old }
-        ensures found { IfSome result (λ entry. ((cell : Cell) × TakesCell self.now at scratch.new entry.value.now entry.next cell)) }
+        ensures found { IfSome result
+            (λ entry. ((cell : Cell) × TakesCell self.now at scratch.new entry.value.now entry.next cell)) }
         ensures advances { IfSome result (λ entry. Advances self.now at entry.value.now entry.next) }
         ensures none { IfNone result ((cells_at at self.now.cells ≡ []) × (scratch.new ≡ scratch.old)) }
     {

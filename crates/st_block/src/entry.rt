@@ -72,7 +72,9 @@ pub(crate) struct ReadCell {
 // The head of the entry at the place behind a key, or none where no entry stands there.
 #[tactic(auto, unfolding(crate::specs::Block::cell_at))]
 pub(crate) fn head_behind(area: &[u8], before: &[u8], at: usize) -> Option<Head>
-    ensures found { IfSome result (λ head. (cell_at area.now before.now at ≡ Some (laid area.now before.now at (head_of head))) × IsFitting area.now before.now at head) }
+    ensures found { IfSome result
+        (λ head. (cell_at area.now before.now at ≡ Some (laid area.now before.now at (head_of head)))
+        × IsFitting area.now before.now at head) }
     ensures none { IfNone result (cell_at area.now before.now at ≡ None) }
 {
     let head = head_at(area, at)?;
@@ -86,7 +88,9 @@ pub(crate) fn head_behind(area: &[u8], before: &[u8], at: usize) -> Option<Head>
 // The entry at the place, behind the key in the scratch; its key is put into the scratch. None, and the scratch is left
 // as it was, where no entry stands there.
 pub(crate) fn read_at(area: &[u8], at: usize, scratch: &mut Scratch) -> Option<ReadCell>
-    ensures found { IfSome result (λ read. (cell_at area.now scratch.old at ≡ Some (cell_of area.now at scratch.new read, read.next)) × IsRead (length area.now) at read) }
+    ensures found { IfSome result
+        (λ read. (cell_at area.now scratch.old at ≡ Some (cell_of area.now at scratch.new read, read.next))
+        × IsRead (length area.now) at read) }
     ensures none { IfNone result ((cell_at area.now scratch.old at ≡ None) × (scratch.new ≡ scratch.old)) }
 {
     let head = head_behind(area, scratch.as_slice(), at)?;

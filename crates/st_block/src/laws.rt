@@ -9,14 +9,17 @@ use st_code::numbers_read_again;
 
 /// Who adds an entry to a writer that holds some adds it behind them.
 pub fn writer_holds_what_is_added()
-    ensures { (writing : Writing) (pairs : List (List ℕ × List ℕ)) (key value : List ℕ) → HoldsPairs writing pairs → HoldsPairs (pair_added writing key value) (pairs ++ (key, value) ∷ []) }
+    ensures { (writing : Writing) (pairs : List (List ℕ × List ℕ)) (key value : List ℕ) → HoldsPairs writing pairs
+        → HoldsPairs (pair_added writing key value) (pairs ++ (key, value) ∷ []) }
 {}
 
 /// Opening a block that was written gives the entries that were added, where these are in the order of its kind.
 pub fn written_block_opens()
-    ensures opens { (kind : BlockKind) (interval : ℕ) (pairs : List (List ℕ × List ℕ)) → 0 < interval → MayWrite kind pairs → length (written_block interval pairs) < 2 ^ 32
+    ensures opens { (kind : BlockKind) (interval : ℕ) (pairs : List (List ℕ × List ℕ)) → 0 < interval
+        → MayWrite kind pairs → length (written_block interval pairs) < 2 ^ 32
         → block_of kind (written_block interval pairs) ≡ Ok (cells_of interval 0 0 [] pairs) }
-    ensures entries { (interval : ℕ) (pairs : List (List ℕ × List ℕ)) → map (λ (cell : Cell). (cell.key, cell.value)) (cells_of interval 0 0 [] pairs) ≡ pairs }
+    ensures entries { (interval : ℕ) (pairs : List (List ℕ × List ℕ))
+        → map (λ (cell : Cell). (cell.key, cell.value)) (cells_of interval 0 0 [] pairs) ≡ pairs }
 {
     numbers_read_again();
 }

@@ -33,7 +33,9 @@ fn next_cell(
     scratch: &mut Scratch,
 ) -> Result<ReadCell, BlockFault>
     requires { at ≢ 0 → IsTrue (is_long_enough kind scratch.old) }
-    ensures ok { IfOk result (λ read. (next_cell kind area.now scratch.old at ≡ Ok (cell_of area.now at scratch.new read, read.next)) × IsRead (length area.now) at read × IsTrue (is_long_enough kind scratch.new)) }
+    ensures ok { IfOk result
+        (λ read. (next_cell kind area.now scratch.old at ≡ Ok (cell_of area.now at scratch.new read, read.next))
+        × IsRead (length area.now) at read × IsTrue (is_long_enough kind scratch.new)) }
     ensures err { IfErr result (λ fault. next_cell kind area.now scratch.old at ≡ Err fault) }
 {
     let Some(head) = head_behind(area, scratch.as_slice(), at) else {
@@ -59,7 +61,8 @@ fn next_cell(
 fn met_by(text: &[u8], tail: Tail, met: usize, at: usize, shared: usize) -> usize
     requires room { tail.end + 4 * tail.count ≤ length text.now }
     requires met { met ≤ tail.count }
-    ensures left { (cell : Cell) → cell.at ≡ at → cell.shared ≡ shared → pass (restarts_left text.now tail met) cell ≡ restarts_left text.now tail result }
+    ensures left { (cell : Cell) → cell.at ≡ at → cell.shared ≡ shared
+        → pass (restarts_left text.now tail met) cell ≡ restarts_left text.now tail result }
     ensures within { result ≤ tail.count }
 {
     if met == tail.count {
@@ -77,7 +80,8 @@ fn test_entries(
     scratch: &mut Scratch,
 ) -> Result<CellCounts, BlockFault>
     requires { tail.end + 4 * tail.count ≤ length text.now }
-    ensures ok { IfOk result (λ found. ((cells : List Cell) × IsTested kind text.now (take tail.end text.now) tail found cells)) }
+    ensures ok { IfOk result
+        (λ found. ((cells : List Cell) × IsTested kind text.now (take tail.end text.now) tail found cells)) }
     ensures err { IfErr result (λ fault. entries_of kind (take tail.end text.now) ≡ Err fault) }
 {
     let area = &text[..tail.end];

@@ -46,7 +46,10 @@ fn are_restarts(text: &[u8], at: usize, count: usize) -> bool
 /// The tail of a block, or none where it is too short, or the restarts don't begin with 0 or don't rise.
 #[tactic(auto, unfolding(crate::specs::Block::tail_of))]
 pub(crate) fn tail_of(text: &[u8]) -> Option<Tail>
-    ensures found { IfSome result (λ tail. (tail_of text.now ≡ Some (record { end = tail.end; restarts = offsets_at text.now tail.end tail.count })) × (tail.end + 4 * tail.count + 4 ≡ length text.now)) }
+    ensures found { IfSome result
+        (λ tail. (tail_of text.now
+        ≡ Some (record { end = tail.end; restarts = offsets_at text.now tail.end tail.count }))
+        × (tail.end + 4 * tail.count + 4 ≡ length text.now)) }
     ensures none { IfNone result (tail_of text.now ≡ None) }
 {
     if text.len() < 4 {

@@ -22,8 +22,13 @@ pub(crate) fn read_in(
 ) -> Option<ReadCell>
     requires lies { IsLayout kind text.now layout (cells_in kind (take layout.end text.now)) }
     requires stands { IsReadableAt (block_contents_in kind text.now layout) at scratch.old }
-    ensures found { IfSome result (λ read. ((cell : Cell) × TakesCell (block_contents_in kind text.now layout) at scratch.new (slice_range (take layout.end text.now) read.value read.next) read.next cell) × IsRead (length (take layout.end text.now)) at read) }
-    ensures none { IfNone result ((cells_at at (cells_in kind (take layout.end text.now)) ≡ []) × (scratch.new ≡ scratch.old)) }
+    ensures found { IfSome result
+        (λ read. ((cell : Cell)
+        × TakesCell (block_contents_in kind text.now layout) at scratch.new
+        (slice_range (take layout.end text.now) read.value read.next) read.next cell)
+        × IsRead (length (take layout.end text.now)) at read) }
+    ensures none { IfNone result
+        ((cells_at at (cells_in kind (take layout.end text.now)) ≡ []) × (scratch.new ≡ scratch.old)) }
 {
     if at == layout.end {
         return None;
@@ -33,7 +38,8 @@ pub(crate) fn read_in(
 
 // The key of the entry at the place, where it shares nothing.
 fn restart_key(area: &[u8], at: usize) -> &[u8]
-    ensures { (before : List ℕ) (cell : Cell) (next : ℕ) → cell_at area.now before at ≡ Some (cell, next) → cell.shared ≡ 0 → result.now ≡ cell.key }
+    ensures { (before : List ℕ) (cell : Cell) (next : ℕ) → cell_at area.now before at ≡ Some (cell, next)
+        → cell.shared ≡ 0 → result.now ≡ cell.key }
 {
     let Some(head) = head_at(area, at) else {
         return &area[..0];

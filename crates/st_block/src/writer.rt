@@ -23,7 +23,8 @@ fn common_front(one: &[u8], other: &[u8]) -> usize
 fn restarts_with(restarts: usize, count: usize, interval: usize) -> usize
     requires interval { 0 < interval }
     requires restarts { restarts < 2 ^ 32 }
-    ensures size { (offsets : List ℕ) (at : ℕ) → length offsets ≡ restarts → result ≡ length (offsets ++ (if count % interval == 0 then at ∷ [] else [])) }
+    ensures size { (offsets : List ℕ) (at : ℕ) → length offsets ≡ restarts
+        → result ≡ length (offsets ++ (if count % interval == 0 then at ∷ [] else [])) }
     ensures within { result ≤ 2 ^ 33 }
 {
     if count % interval == 0 {
@@ -155,7 +156,8 @@ impl BlockWriter {
     /// The block of what was added.
     pub fn finish(&self, alloc: Global) -> Result<Bytes, AllocError>
         ensures value { IfOk result (λ bytes. bytes ≡ finished_block self.now) }
-        ensures written { IfOk result (λ bytes. (pairs : List (List ℕ × List ℕ)) → HoldsPairs self.now pairs → bytes ≡ written_block self.now.interval pairs) }
+        ensures written { IfOk result (λ bytes. (pairs : List (List ℕ × List ℕ)) → HoldsPairs self.now pairs
+            → bytes ≡ written_block self.now.interval pairs) }
     {
         let mut bytes = Bytes::new(alloc);
         bytes.extend_from_slice(self.entries.as_slice())?;

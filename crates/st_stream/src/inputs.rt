@@ -16,7 +16,8 @@ pub trait Inputs {
     /// The length of a file in bytes, `None` exactly where the file isn't there.
     fn size(&mut self, name: &str) -> Result<Option<u64>, Failed>
         requires { IsTrue (is_name name.now) }
-        ensures size { IsTrue (tells self.old).known → IfOk result (λ size. size ≡ option_map length ((tells self.old).file name.now)) }
+        ensures size { IsTrue (tells self.old).known
+            → IfOk result (λ size. size ≡ option_map length ((tells self.old).file name.now)) }
         ensures failed { OnErr result (Rose (tells self.old).faults (tells self.new).faults) }
         ensures untouched { InputsUntouched (tells self.old) (tells self.new) };
 
@@ -24,7 +25,8 @@ pub trait Inputs {
     /// empty is the file's end. A file that isn't there has no bytes.
     fn read(&mut self, name: &str, at: u64, buffer: &mut [u8]) -> Result<usize, Failed>
         requires { IsTrue (is_name name.now) }
-        ensures bytes { IsTrue (tells self.old).known → IfOk result (λ n. ReadsAt (bytes_of ((tells self.old).file name.now)) at buffer.old buffer.new n) }
+        ensures bytes { IsTrue (tells self.old).known
+            → IfOk result (λ n. ReadsAt (bytes_of ((tells self.old).file name.now)) at buffer.old buffer.new n) }
         ensures within { IfOk result (λ n. n ≤ length buffer.old) }
         ensures failed { OnErr result (Rose (tells self.old).faults (tells self.new).faults) }
         ensures untouched { InputsUntouched (tells self.old) (tells self.new) };

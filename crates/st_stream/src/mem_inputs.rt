@@ -52,7 +52,8 @@ impl Inputs for MemInputs {
 
     fn size(&mut self, name: &str) -> Result<Option<u64>, Failed>
         requires { IsTrue (is_name name.now) }
-        ensures size { IsTrue (mem_inputs_told self.old).known → IfOk result (λ size. size ≡ option_map length ((mem_inputs_told self.old).file name.now)) }
+        ensures size { IsTrue (mem_inputs_told self.old).known
+            → IfOk result (λ size. size ≡ option_map length ((mem_inputs_told self.old).file name.now)) }
         ensures failed { OnErr result (Rose (mem_inputs_told self.old).faults (mem_inputs_told self.new).faults) }
         ensures untouched { InputsUntouched (mem_inputs_told self.old) (mem_inputs_told self.new) }
         ensures listed { is_err result ≡ fails_next (mem_inputs_calls self.old) }
@@ -67,11 +68,14 @@ impl Inputs for MemInputs {
 
     fn read(&mut self, name: &str, at: u64, buffer: &mut [u8]) -> Result<usize, Failed>
         requires { IsTrue (is_name name.now) }
-        ensures bytes { IsTrue (mem_inputs_told self.old).known → IfOk result (λ n. ReadsAt (bytes_of ((mem_inputs_told self.old).file name.now)) at buffer.old buffer.new n) }
+        ensures bytes { IsTrue (mem_inputs_told self.old).known
+            → IfOk result
+            (λ n. ReadsAt (bytes_of ((mem_inputs_told self.old).file name.now)) at buffer.old buffer.new n) }
         ensures within { IfOk result (λ n. n ≤ length buffer.old) }
         ensures failed { OnErr result (Rose (mem_inputs_told self.old).faults (mem_inputs_told self.new).faults) }
         ensures untouched { InputsUntouched (mem_inputs_told self.old) (mem_inputs_told self.new) }
-        ensures all { IfOk result (λ n. n ≡ min (length buffer.old) (length (bytes_of ((mem_inputs_told self.old).file name.now)) - at)) }
+        ensures all { IfOk result
+            (λ n. n ≡ min (length buffer.old) (length (bytes_of ((mem_inputs_told self.old).file name.now)) - at)) }
         ensures listed { is_err result ≡ fails_next (mem_inputs_calls self.old) }
         ensures counts { CountsCall (mem_inputs_calls self.old) (mem_inputs_calls self.new) }
     {

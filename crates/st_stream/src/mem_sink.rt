@@ -57,8 +57,10 @@ impl Sink for MemSink {
     ghost counted = { λ sink. sink.calls.small };
 
     fn write(&mut self, bytes: &[u8]) -> Result<usize, Failed>
-        ensures written { IsTrue (mem_sink_told self.old).known → IfOk result (AppendsFirst (mem_sink_told self.old).written (mem_sink_told self.new).written bytes.now) }
-        ensures untouched { IsTrue (mem_sink_told self.old).known → OnErr result ((mem_sink_told self.new).written ≡ (mem_sink_told self.old).written) }
+        ensures written { IsTrue (mem_sink_told self.old).known
+            → IfOk result (AppendsFirst (mem_sink_told self.old).written (mem_sink_told self.new).written bytes.now) }
+        ensures untouched { IsTrue (mem_sink_told self.old).known
+            → OnErr result ((mem_sink_told self.new).written ≡ (mem_sink_told self.old).written) }
         ensures within { IfOk result (λ n. n ≤ length bytes.now) }
         ensures some { IfOk result (λ n. 0 < length bytes.now → 0 < n) }
         ensures failed { OnErr result (Rose (mem_sink_told self.old).faults (mem_sink_told self.new).faults) }
@@ -67,7 +69,8 @@ impl Sink for MemSink {
         ensures all { IfOk result (λ n. n ≡ length bytes.now) }
         ensures counts { CountsCall (mem_sink_calls self.old) (mem_sink_calls self.new) }
         ensures listed { IsTrue (fails_next (mem_sink_calls self.old)) → IsErr result }
-        ensures unlisted { IsFalse (fails_next (mem_sink_calls self.old)) → OnErr result (Rose (mem_sink_starved self.old) (mem_sink_starved self.new)) }
+        ensures unlisted { IsFalse (fails_next (mem_sink_calls self.old))
+            → OnErr result (Rose (mem_sink_starved self.old) (mem_sink_starved self.new)) }
         ensures fed { OnOk result (mem_sink_starved self.new ≡ mem_sink_starved self.old) }
     {
         self.calls.count_call(true)?;

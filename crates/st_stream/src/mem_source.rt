@@ -42,8 +42,11 @@ impl Source for MemSource {
     ghost counted = { λ source. source.calls.small };
 
     fn read(&mut self, buffer: &mut [u8]) -> Result<usize, Failed>
-        ensures taken { IsTrue (mem_source_told self.old).known → IfOk result (TakesBytes (mem_source_told self.old).left (mem_source_told self.new).left buffer.old buffer.new) }
-        ensures untouched { IsTrue (mem_source_told self.old).known → OnErr result ((mem_source_told self.new).left ≡ (mem_source_told self.old).left) }
+        ensures taken { IsTrue (mem_source_told self.old).known
+            → IfOk result
+            (TakesBytes (mem_source_told self.old).left (mem_source_told self.new).left buffer.old buffer.new) }
+        ensures untouched { IsTrue (mem_source_told self.old).known
+            → OnErr result ((mem_source_told self.new).left ≡ (mem_source_told self.old).left) }
         ensures within { IfOk result (λ n. n ≤ length buffer.old) }
         ensures failed { OnErr result (Rose (mem_source_told self.old).faults (mem_source_told self.new).faults) }
         ensures known { (mem_source_told self.new).known ≡ (mem_source_told self.old).known }

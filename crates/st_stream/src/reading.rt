@@ -33,7 +33,8 @@ pub fn read_file<I: Inputs>(
     limit: u64,
 ) -> Result<FileRead, ReadFault>
     requires named { IsTrue (is_name name.now) }
-    ensures read { IsTrue (I.tells inputs.old).known → IfOk result (λ read. read ≡ file_read limit ((I.tells inputs.old).file name.now)) }
+    ensures read { IsTrue (I.tells inputs.old).known
+        → IfOk result (λ read. read ≡ file_read limit ((I.tells inputs.old).file name.now)) }
     ensures within { IfOk result (λ read. IsFileWithin limit read) }
     ensures failed { IsErrOf result ReadFault.Failed → Rose (I.tells inputs.old).faults (I.tells inputs.new).faults }
     ensures untouched { InputsUntouched (I.tells inputs.old) (I.tells inputs.new) }
@@ -53,7 +54,8 @@ fn read_bytes<I: Inputs>(
     size: u64,
 ) -> Result<Bytes, ReadFault>
     requires named { IsTrue (is_name name.now) }
-    ensures bytes { IsTrue (I.tells inputs.old).known → size ≡ length (bytes_of ((I.tells inputs.old).file name.now)) → IfOk result (λ bytes. bytes ≡ bytes_of ((I.tells inputs.old).file name.now)) }
+    ensures bytes { IsTrue (I.tells inputs.old).known → size ≡ length (bytes_of ((I.tells inputs.old).file name.now))
+        → IfOk result (λ bytes. bytes ≡ bytes_of ((I.tells inputs.old).file name.now)) }
     ensures within { IfOk result (λ bytes. length bytes ≤ size) }
     ensures failed { IsErrOf result ReadFault.Failed → Rose (I.tells inputs.old).faults (I.tells inputs.new).faults }
     ensures untouched { InputsUntouched (I.tells inputs.old) (I.tells inputs.new) }
@@ -75,7 +77,8 @@ fn read_pieces<I: Inputs>(
     requires named { IsTrue (is_name name.now) }
     requires some { 0 < length piece.old }
     requires empty { bytes.old ≡ [] }
-    ensures bytes { IsTrue (I.tells inputs.old).known → size ≡ length (bytes_of ((I.tells inputs.old).file name.now)) → IfOk result (λ _. bytes.new ≡ bytes_of ((I.tells inputs.old).file name.now)) }
+    ensures bytes { IsTrue (I.tells inputs.old).known → size ≡ length (bytes_of ((I.tells inputs.old).file name.now))
+        → IfOk result (λ _. bytes.new ≡ bytes_of ((I.tells inputs.old).file name.now)) }
     ensures within { length bytes.new ≤ size }
     ensures failed { IsErrOf result ReadFault.Failed → Rose (I.tells inputs.old).faults (I.tells inputs.new).faults }
     ensures untouched { InputsUntouched (I.tells inputs.old) (I.tells inputs.new) }

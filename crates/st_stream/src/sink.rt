@@ -12,8 +12,10 @@ pub trait Sink {
     /// Writes some of the bytes, from the first on, and answers how many: at least one where there are any. `Failed`
     /// comes only where the count of faults rose in this call, or stands at its end, and then nothing was written.
     fn write(&mut self, bytes: &[u8]) -> Result<usize, Failed>
-        ensures written { IsTrue (tells self.old).known → IfOk result (AppendsFirst (tells self.old).written (tells self.new).written bytes.now) }
-        ensures untouched { IsTrue (tells self.old).known → OnErr result ((tells self.new).written ≡ (tells self.old).written) }
+        ensures written { IsTrue (tells self.old).known
+            → IfOk result (AppendsFirst (tells self.old).written (tells self.new).written bytes.now) }
+        ensures untouched { IsTrue (tells self.old).known
+            → OnErr result ((tells self.new).written ≡ (tells self.old).written) }
         ensures within { IfOk result (λ n. n ≤ length bytes.now) }
         ensures some { IfOk result (λ n. 0 < length bytes.now → 0 < n) }
         ensures failed { OnErr result (Rose (tells self.old).faults (tells self.new).faults) }

@@ -13,8 +13,10 @@ pub trait Source {
     /// for a buffer that isn't empty is the end. `Failed` comes only where the count of faults rose in this call, or
     /// stands at its end, and then nothing was taken.
     fn read(&mut self, buffer: &mut [u8]) -> Result<usize, Failed>
-        ensures taken { IsTrue (tells self.old).known → IfOk result (TakesBytes (tells self.old).left (tells self.new).left buffer.old buffer.new) }
-        ensures untouched { IsTrue (tells self.old).known → OnErr result ((tells self.new).left ≡ (tells self.old).left) }
+        ensures taken { IsTrue (tells self.old).known
+            → IfOk result (TakesBytes (tells self.old).left (tells self.new).left buffer.old buffer.new) }
+        ensures untouched { IsTrue (tells self.old).known
+            → OnErr result ((tells self.new).left ≡ (tells self.old).left) }
         ensures within { IfOk result (λ n. n ≤ length buffer.old) }
         ensures failed { OnErr result (Rose (tells self.old).faults (tells self.new).faults) }
         ensures known { (tells self.new).known ≡ (tells self.old).known }

@@ -28,9 +28,11 @@ pub fn read_source<S: Source>(
     source: &mut S,
     limit: u64,
 ) -> Result<SourceRead, ReadFault>
-    ensures read { IsTrue (S.tells source.old).known → IfOk result (λ read. read ≡ source_read limit (S.tells source.old).left) }
+    ensures read { IsTrue (S.tells source.old).known
+        → IfOk result (λ read. read ≡ source_read limit (S.tells source.old).left) }
     ensures end { IsTrue (S.tells source.old).known → IfOk result (λ read. LeavesNone read (S.tells source.new).left) }
-    ensures taken { IsTrue (S.tells source.old).known → TakesPrefix (S.tells source.old).left (S.tells source.new).left }
+    ensures taken { IsTrue (S.tells source.old).known
+        → TakesPrefix (S.tells source.old).left (S.tells source.new).left }
     ensures within { IfOk result (λ read. IsReadWithin limit read) }
     ensures failed { IsErrOf result ReadFault.Failed → Rose (S.tells source.old).faults (S.tells source.new).faults }
     ensures known { (S.tells source.new).known ≡ (S.tells source.old).known }
@@ -48,9 +50,11 @@ fn read_pieces<S: Source>(
     piece: &mut [u8],
 ) -> Result<SourceRead, ReadFault>
     requires some { 0 < length piece.old }
-    ensures read { IsTrue (S.tells source.old).known → IfOk result (λ read. read ≡ source_read limit (S.tells source.old).left) }
+    ensures read { IsTrue (S.tells source.old).known
+        → IfOk result (λ read. read ≡ source_read limit (S.tells source.old).left) }
     ensures end { IsTrue (S.tells source.old).known → IfOk result (λ read. LeavesNone read (S.tells source.new).left) }
-    ensures taken { IsTrue (S.tells source.old).known → TakesPrefix (S.tells source.old).left (S.tells source.new).left }
+    ensures taken { IsTrue (S.tells source.old).known
+        → TakesPrefix (S.tells source.old).left (S.tells source.new).left }
     ensures within { IfOk result (λ read. IsReadWithin limit read) }
     ensures failed { IsErrOf result ReadFault.Failed → Rose (S.tells source.old).faults (S.tells source.new).faults }
     ensures known { (S.tells source.new).known ≡ (S.tells source.old).known }

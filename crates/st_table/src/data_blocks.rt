@@ -59,9 +59,14 @@ fn push_block(
     entries: &mut EntryArena,
     scratch: &mut Scratch,
 ) -> Result<(), OpenTableFault>
-    ensures ok { OnOk result (with_block kind bytes.now.value item.entry.at item.entry.block item.entry.before.now item.entry.key.now item.entry.value.now entries.old ≡ Ok entries.new) }
+    ensures ok { OnOk result
+        (with_block kind bytes.now.value item.entry.at item.entry.block item.entry.before.now item.entry.key.now
+        item.entry.value.now entries.old ≡ Ok entries.new) }
     ensures rows { AreRows entries.old → OnOk result (AreRows entries.new) }
-    ensures err { IfErr result (λ fault. Fails fault (with_block kind bytes.now.value item.entry.at item.entry.block item.entry.before.now item.entry.key.now item.entry.value.now entries.old)) }
+    ensures err { IfErr result
+        (λ fault. Fails fault
+        (with_block kind bytes.now.value item.entry.at item.entry.block item.entry.before.now item.entry.key.now
+        item.entry.value.now entries.old)) }
 {
     let handle = value_handle(bytes.as_slice(), item.at, item.value)?;
     let block = block_at(bytes, handle, BlockKind::Data, scratch)?;

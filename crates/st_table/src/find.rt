@@ -39,7 +39,8 @@ pub(crate) fn lower_in(entries: &EntryArena, key: &[u8], number: u64) -> usize
 
 // The number and the mark of an entry, if it has the key.
 fn newest_there<'a>(key: &[u8], entry: Option<EntryRef<'a>>) -> Option<(u64, MarkRef<'a>)>
-    ensures { option_map (λ found. (found.0, mark_of found.1)) result ≡ newest_there key.now (option_map entry_of entry.entry) }
+    ensures { option_map (λ found. (found.0, mark_of found.1)) result
+        ≡ newest_there key.now (option_map entry_of entry.entry) }
 {
     match entry {
         Some(entry) if entry.key == key => Some((entry.number, entry.mark)),

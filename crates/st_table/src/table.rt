@@ -77,8 +77,10 @@ impl Table {
         kind: TableKind,
         number: u64,
     ) -> Result<Table, OpenTableFault>
-        requires { (number ≡ 0) ⊎ ((entries : List Entry) → IsTable bytes.value kind entries → IsTrue (keys_rise entries)) }
-        ensures ok { IfOk result (λ table. ((entries : List Entry) × IsTable bytes.value kind entries × (table ≡ acting number entries))) }
+        requires { (number ≡ 0)
+            ⊎ ((entries : List Entry) → IsTable bytes.value kind entries → IsTrue (keys_rise entries)) }
+        ensures ok { IfOk result
+            (λ table. ((entries : List Entry) × IsTable bytes.value kind entries × (table ≡ acting number entries))) }
         ensures bad { IfErr result (IsFirstFault bytes.value kind) }
     {
         let entries = table_of(alloc, &bytes, kind)?;
