@@ -20,7 +20,7 @@ use Rattle.st_base.specs.Word.{word}
 use Rattle.build_text.specs.declared.fault.BuildFault.{BuildFault}
 use Rattle.build_text.specs.declared.fault.BuildFault.TheVariants.{TooLarge, NotRising}
 use Rattle.build_text.specs.Words.{AreBytes, bytes_of_word, text_parts, words}
-use Rattle.build_text.specs.Build.{IsBuildEntry, IsMarkOfBytes, and_then, at_end, build_line, build_of, build_text, build_words, entry_of_del, entries_from, entry_of_line, entry_of_words, is_above, is_within, entry_of_put, entry_of_put, some_entries, unnumbered, with_build_line, with_found}
+use Rattle.build_text.specs.Build.{IsBuildEntry, IsMarkOfBytes, and_then, at_end, build_line, build_of, build_text, build_words, del_entry, entries_from, entry_of_line, entry_of_words, is_above, is_within, put_entry, entry_of_put, some_entries, unnumbered, with_build_line, with_found}
 use Rattle.build_text.proofs.Building.{build_line_read, entry_added, last_key_added, line_some, some_stay}
 use Rattle.build_text.proofs.Joining.{cut_first, join_lacks, lacks, other_than, words_join, word_lacks}
 use Rattle.build_text.proofs.SpelledBytes.{read_word, only_word}
@@ -29,7 +29,7 @@ use Rattle.build_text.proofs.SpelledBytes.{read_word, only_word}
 
 -- it is read as the entry
 words-read : (key : List ℕ) (mark : Mark) → AreBytes key → IsMarkOfBytes mark → entry_of_words (build_words key mark) ≡ Some (unnumbered key mark)
-unfolding entry_of_put entry_of_del
+unfolding put_entry del_entry
 words-read key (Put value) are value_are =
     ap (λ k. entry_of_put k (bytes_of_word (word value))) (read_word key are) ∙ ap (entry_of_put (Some key)) (read_word value value_are)
 words-read key Gone are none = ap (option_map (λ k. unnumbered k Gone)) (read_word key are)
@@ -92,20 +92,20 @@ del-line name first (Some key) entry n e g =
     subst (IsLine (name ∷ first ∷ [])) same
     (ap (λ w. w ∷ first ∷ []) n ∙ ap (λ w. codes "del" ∷ w ∷ []) k.0, record { key = k.1; mark = tt; number = refl })
 
-put-is : (name : List ℕ) (arguments : List (List ℕ)) (entry : Entry) → name ≡ codes "put" → entry_of_put arguments ≡ Some entry → IsLine (name ∷ arguments) entry
-unfolding entry_of_put
+put-is : (name : List ℕ) (arguments : List (List ℕ)) (entry : Entry) → name ≡ codes "put" → put_entry arguments ≡ Some entry → IsLine (name ∷ arguments) entry
+unfolding put_entry
 put-is name [] entry n e = absurd (cc)
 put-is name (first ∷ []) entry n e = absurd (cc)
 put-is name (first ∷ second ∷ []) entry n e = put-line name first second (bytes_of_word first) (bytes_of_word second) entry n refl refl e
 put-is name (first ∷ second ∷ third ∷ others) entry n e = absurd (cc)
 
-del-is : (name : List ℕ) (arguments : List (List ℕ)) (entry : Entry) → name ≡ codes "del" → entry_of_del arguments ≡ Some entry → IsLine (name ∷ arguments) entry
-unfolding entry_of_del
+del-is : (name : List ℕ) (arguments : List (List ℕ)) (entry : Entry) → name ≡ codes "del" → del_entry arguments ≡ Some entry → IsLine (name ∷ arguments) entry
+unfolding del_entry
 del-is name [] entry n e = absurd (cc)
 del-is name (first ∷ []) entry n e = del-line name first (bytes_of_word first) entry n refl e
 del-is name (first ∷ second ∷ others) entry n e = absurd (cc)
 
-named-is : (name : List ℕ) (arguments : List (List ℕ)) (entry : Entry) (p d : Bool) → same name (codes "put") ≡ p → same name (codes "del") ≡ d → cond p (entry_of_put arguments) (cond d (entry_of_del arguments) None) ≡ Some entry → IsLine (name ∷ arguments) entry
+named-is : (name : List ℕ) (arguments : List (List ℕ)) (entry : Entry) (p d : Bool) → same name (codes "put") ≡ p → same name (codes "del") ≡ d → cond p (put_entry arguments) (cond d (del_entry arguments) None) ≡ Some entry → IsLine (name ∷ arguments) entry
 named-is name arguments entry true d p_is d_is e = put-is name arguments entry (same_true name (codes "put") p_is) e
 named-is name arguments entry false true p_is d_is e = del-is name arguments entry (same_true name (codes "del") d_is) e
 named-is name arguments entry false false p_is d_is e = absurd (cc)

@@ -40,8 +40,8 @@ abbrev pub unnumbered : List ℕ → Mark → Entry
 unnumbered key mark = record { key = key; number = 0; mark = mark }
 
 -- the entry of a line, without where it lies in memory
-abbrev pub as_entry : LineEntry → Entry
-as_entry entry = unnumbered entry.key.now (mark_of entry.mark)
+abbrev pub entry_in_line : LineEntry → Entry
+entry_in_line entry = unnumbered entry.key.now (mark_of entry.mark)
 
 -- the entry of a key and its value, where both are there
 abbrev pub entry_of_put : Option (List ℕ) → Option (List ℕ) → Option Entry
@@ -51,14 +51,14 @@ entry_of_put key_read value_read = do
   Some (unnumbered key (Put value))
 
 -- `put K V`
-unfoldable pub entry_of_put : List (List ℕ) → Option Entry
-entry_of_put arguments = do
+unfoldable pub put_entry : List (List ℕ) → Option Entry
+put_entry arguments = do
   two ← two_words arguments
   entry_of_put (bytes_of_word two.0) (bytes_of_word two.1)
 
 -- `del K`
-unfoldable pub entry_of_del : List (List ℕ) → Option Entry
-entry_of_del arguments = do
+unfoldable pub del_entry : List (List ℕ) → Option Entry
+del_entry arguments = do
   one ← one_word arguments
   key ← bytes_of_word one
   Some (unnumbered key Gone)
@@ -67,8 +67,8 @@ entry_of_del arguments = do
 abbrev pub entry_of_words : List (List ℕ) → Option Entry
 entry_of_words [] = None
 entry_of_words (name ∷ arguments) =
-    if same name (codes "put") then entry_of_put arguments
-    else (if same name (codes "del") then entry_of_del arguments
+    if same name (codes "put") then put_entry arguments
+    else (if same name (codes "del") then del_entry arguments
     else None)
 
 -- what a line, without its line feed, stands for: an entry, whatever its size
@@ -152,7 +152,7 @@ line_fault_of_word spelling.OutOfMemory = one.OutOfMemory
 
 -- it is the entry of the line, within the limits, or the line's fault, unless memory is wanted
 abbrev pub GivesEntry : Result LineEntry BuildLineFault → Option Entry → Type 0
-GivesEntry (Ok found) reading = (reading ≡ Some (as_entry found)) × IsTrue (is_within (as_entry found))
+GivesEntry (Ok found) reading = (reading ≡ Some (entry_in_line found)) × IsTrue (is_within (entry_in_line found))
 GivesEntry (Err one.Line) reading = reading ≡ None
 GivesEntry (Err one.TooLarge) reading = (entry : Entry) × (reading ≡ Some entry) × IsFalse (is_within entry)
 GivesEntry (Err one.OutOfMemory) reading = ⊤

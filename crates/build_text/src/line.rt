@@ -1,6 +1,6 @@
 ghost use Rattle.std.specs.Prelude.{◌≡◌, ℕ, ◌++◌, List, Err, OnOk, OnErr, Option};
 ghost use Rattle.st_base.specs.Rows.{entry_of};
-ghost use Rattle.build_text.specs.Build.{GivesEntry, build_line, entry_of_del, entry_of_line, entry_of_put, entry_of_put};
+ghost use Rattle.build_text.specs.Build.{GivesEntry, build_line, del_entry, entry_of_line, entry_of_put, put_entry};
 ghost use Rattle.build_text.specs.Words.{Extends, GivesBytes};
 
 use crate::fault::{BuildLineFault, WordFault};
@@ -69,12 +69,12 @@ fn entry_of_put<'a>(
 }
 
 // `put K V`
-#[tactic(auto, unfolding(crate::specs::Build::entry_of_put))]
+#[tactic(auto, unfolding(crate::specs::Build::put_entry))]
 fn read_put<'a>(
     arguments: Words<'a>,
     scratch: &'a mut LineScratch,
 ) -> Result<LineEntry<'a>, BuildLineFault>
-    ensures { GivesEntry result (entry_of_put arguments.entry) }
+    ensures { GivesEntry result (put_entry arguments.entry) }
 {
     let (key, value) = arguments.two().ok_or(BuildLineFault::Line)?;
     entry_of_put(
@@ -84,12 +84,12 @@ fn read_put<'a>(
 }
 
 // `del K`
-#[tactic(auto, unfolding(crate::specs::Build::entry_of_del))]
+#[tactic(auto, unfolding(crate::specs::Build::del_entry))]
 fn read_del<'a>(
     arguments: Words<'a>,
     scratch: &'a mut LineScratch,
 ) -> Result<LineEntry<'a>, BuildLineFault>
-    ensures { GivesEntry result (entry_of_del arguments.entry) }
+    ensures { GivesEntry result (del_entry arguments.entry) }
 {
     let key = arguments.one().ok_or(BuildLineFault::Line)?;
     match read_word(key, KEY_BYTES, &mut scratch.key) {

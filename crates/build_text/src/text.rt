@@ -2,7 +2,7 @@ ghost use Rattle.std.specs.Prelude.{◌≡◌, ◌<◌, List, [], Bool, true, le
 ghost use Rattle.std.specs.List.{AllByRecursion as Each};
 ghost use Rattle.st_base.specs.Rows.{AreRows, entry_of, last_key, mark_of};
 ghost use Rattle.st_base.specs.declared.entry.Entry.{Entry};
-ghost use Rattle.build_text.specs.Build.{GivesEntries, GivesMore, IsBuildEntry, as_entry, build_of, build_text, entries_from, is_above};
+ghost use Rattle.build_text.specs.Build.{GivesEntries, GivesMore, IsBuildEntry, entry_in_line, build_of, build_text, entries_from, is_above};
 ghost use Rattle.build_text.specs.Build.{is_within, with_build_line, with_line_entry};
 ghost use Rattle.build_text.specs.Words.{text_parts};
 
@@ -25,8 +25,9 @@ pub trait EntryWriter {
     /// of the last entry, and `TooLarge` exactly where it is, and the entries don't fit with this one; `OutOfMemory` may come
     /// for any. Nothing is said of what it holds after an error.
     fn write(&mut self, alloc: Global, line: u32, entry: LineEntry<'_>) -> Result<(), BuildFault>
-        requires { IsTrue (is_within (as_entry entry)) }
-        ensures { GivesMore result (entries self.new) (with_line_entry fits (entries self.old) line (as_entry entry.entry)) };
+        requires { IsTrue (is_within (entry_in_line entry)) }
+        ensures { GivesMore result (entries self.new)
+            (with_line_entry fits (entries self.old) line (entry_in_line entry.entry)) };
 }
 
 // Gives the entry of the line of this number to the writer.
@@ -59,7 +60,8 @@ pub fn write_build<W: EntryWriter>(
     writer: &mut W,
 ) -> Result<(), BuildFault>
     requires { length text.now < 4294967295 }
-    ensures { GivesMore result (W.entries writer.new) (entries_from W.fits (W.entries writer.old) 1 (text_parts text.now)) }
+    ensures { GivesMore result (W.entries writer.new)
+        (entries_from W.fits (W.entries writer.old) 1 (text_parts text.now)) }
 {
     let mut scratch = LineScratch::new(alloc);
     let mut rest = text;
@@ -91,7 +93,7 @@ fn owned_mark(alloc: Global, mark: MarkRef<'_>) -> Result<Mark, MakeFault>
 
 // The entry with a key and a value of its own.
 fn owned_entry(alloc: Global, entry: LineEntry<'_>) -> Result<Entry, MakeFault>
-    ensures { IfOk result (λ own. own ≡ as_entry entry.entry) }
+    ensures { IfOk result (λ own. own ≡ entry_in_line entry.entry) }
 {
     Ok(Entry {
         key: Key::new(alloc, entry.key)?,

@@ -29,7 +29,8 @@ fn read_number(word: &[u8]) -> Option<u64>
 
 // The number that is the only word.
 fn read_written(mut words: Words<'_>) -> Result<Reply, ParseFault>
-    ensures { (number : ℕ) → number < 2 ^ 64 → words.entry ≡ decimal number ∷ [] → GivesBack result (Reply.Written number) }
+    ensures { (number : ℕ) → number < 2 ^ 64 → words.entry ≡ decimal number ∷ []
+        → GivesBack result (Reply.Written number) }
 {
     let word = words.next().ok_or(ParseFault::Mismatch)?;
     let number = read_number(word).ok_or(ParseFault::Mismatch)?;
@@ -38,7 +39,8 @@ fn read_written(mut words: Words<'_>) -> Result<Reply, ParseFault>
 
 // The value that the word stands for.
 fn found_value(alloc: Global, word: &[u8]) -> Result<Value, ParseFault>
-    ensures { (value : List ℕ) → AreBytes value → length value ≤ 1048576 → word.now ≡ spelling_of value → GivesBack result value }
+    ensures { (value : List ℕ) → AreBytes value → length value ≤ 1048576 → word.now ≡ spelling_of value
+        → GivesBack result value }
 {
     let mut scratch = Bytes::new(alloc);
     match read_word(word, VALUE_BYTES, &mut scratch) {
@@ -58,7 +60,8 @@ fn read_found(alloc: Global, mut words: Words<'_>) -> Result<Reply, ParseFault>
 
 // The refusal of which these are the words.
 fn read_refusal(alloc: Global, mut words: Words<'_>) -> Result<Refusal, ParseFault>
-    ensures { (refusal : Refusal) → IsPrintedRefusal refusal → words.entry ≡ refusal_words refusal → GivesBack result refusal }
+    ensures { (refusal : Refusal) → IsPrintedRefusal refusal → words.entry ≡ refusal_words refusal
+        → GivesBack result refusal }
 {
     let number = words.next().ok_or(ParseFault::Mismatch)?;
     let _name = words.next().ok_or(ParseFault::Mismatch)?;

@@ -80,7 +80,8 @@ impl<D: Disk> Engine<D> {
         ensures after { IfOk result (λ engine. IsHonest (D.tells disk) → (image : Image)
             → (D.tells engine.disk).now image → opens image ≡ opens (D.tells disk).reads) }
 
-        ensures disk { IfOk result (λ engine. ChangesDisk (D.tells disk) (D.tells engine.disk) (D.tells engine.disk).top ⊥) }
+        ensures disk { IfOk result
+            (λ engine. ChangesDisk (D.tells disk) (D.tells engine.disk) (D.tells engine.disk).top ⊥) }
         ensures disk_err { IfErr result
             (λ back. ChangesDisk (D.tells disk) (D.tells back.0) (D.tells back.0).top (back.1 ≡ OpenFault.DiskFault)) }
     {
@@ -159,7 +160,8 @@ impl<D: Disk> Engine<D> {
         ensures unchanged { OnErr result (self.new.store ≡ self.old.store) }
         ensures fault { IfErr result (λ refusal. refusal ≡ Refusal.DiskFault) }
         ensures stopped { OnErr result (self.new.stopped ≡ Some (D.tells self.new.disk).faults) }
-        ensures disk { ChangesDisk (D.tells self.old.disk) (D.tells self.new.disk) (D.tells self.old.disk).top (IsErr result) }
+        ensures disk { ChangesDisk (D.tells self.old.disk) (D.tells self.new.disk) (D.tells self.old.disk).top
+            (IsErr result) }
     {
         match self.wal.append(&mut self.disk, encoded) {
             Ok(()) => Ok(self.store.accept(ops, charge)),
@@ -208,7 +210,8 @@ impl<D: Disk> Engine<D> {
         ensures untouched { IfErr result
             (λ refusal. (refusal ≡ Refusal.DiskFault → ⊥) → self.new.disk ≡ self.old.disk) }
 
-        ensures options { (self.new.store.behind ≡ self.old.store.behind) × (self.new.store.capacity ≡ self.old.store.capacity) }
+        ensures options { (self.new.store.behind ≡ self.old.store.behind)
+            × (self.new.store.capacity ≡ self.old.store.capacity) }
         ensures disk { ChangesDisk (D.tells self.old.disk) (D.tells self.new.disk) (D.tells self.old.disk).top
             (IsErrOf result Refusal.DiskFault) }
     {

@@ -66,7 +66,8 @@ pub fn recover<D: Disk>(alloc: Global, disk: &mut D) -> Result<(List<Logged>, Wa
     ensures after { IsHonest (D.tells disk.old)
         → OnOk result ((image : Image) → (D.tells disk.new).now image → opens image ≡ opens (D.tells disk.old).reads) }
 
-    ensures disk { ChangesDisk (D.tells disk.old) (D.tells disk.new) (D.tells disk.new).top (IsErrOf result OpenFault.DiskFault) }
+    ensures disk { ChangesDisk (D.tells disk.old) (D.tells disk.new) (D.tells disk.new).top
+        (IsErrOf result OpenFault.DiskFault) }
 {
     settle(alloc, disk)?;
     if disk.length(MARK_FILE)?.is_some() {

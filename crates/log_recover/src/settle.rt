@@ -11,8 +11,10 @@ fn sync_each<D: Disk>(disk: &mut D, names: &[u64]) -> Result<(), Failed>
     requires { IsHonest (D.tells disk.old) → (k : ℕ) → k < length names.now
         → There ((D.tells disk.old).reads (slice_index names.now k)) (λ _. Unit {0}) }
     ensures crash { IsHonest (D.tells disk.old) → Leaves (D.tells disk.old).now (D.tells disk.old) (D.tells disk.new) }
-    ensures reads { IsHonest (D.tells disk.old) → OnOk result ((file : ℕ) → (D.tells disk.new).reads file ≡ (D.tells disk.old).reads file) }
-    ensures settled { IsHonest (D.tells disk.old) → OnOk result ((k : ℕ) → k < length names.now → IsDurable (slice_index names.now k) (D.tells disk.new)) }
+    ensures reads { IsHonest (D.tells disk.old)
+        → OnOk result ((file : ℕ) → (D.tells disk.new).reads file ≡ (D.tells disk.old).reads file) }
+    ensures settled { IsHonest (D.tells disk.old)
+        → OnOk result ((k : ℕ) → k < length names.now → IsDurable (slice_index names.now k) (D.tells disk.new)) }
     ensures disk { ChangesDisk (D.tells disk.old) (D.tells disk.new) (D.tells disk.old).top (IsErr result) }
 {
     for name in names {
@@ -27,7 +29,8 @@ pub fn settle<D: Disk>(alloc: Global, disk: &mut D) -> Result<(), ReadFault>
     ensures reads { IsHonest (D.tells disk.old)
         → OnOk result ((file : ℕ) → (D.tells disk.new).reads file ≡ (D.tells disk.old).reads file) }
     ensures settled { IsHonest (D.tells disk.old) → OnOk result (IsSettled (D.tells disk.new)) }
-    ensures disk { ChangesDisk (D.tells disk.old) (D.tells disk.new) (D.tells disk.new).top (IsErrOf result ReadFault.Failed) }
+    ensures disk { ChangesDisk (D.tells disk.old) (D.tells disk.new) (D.tells disk.new).top
+        (IsErrOf result ReadFault.Failed) }
 {
     let names = disk.files(alloc)?;
     sync_each(disk, names.as_slice())?;

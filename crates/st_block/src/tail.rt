@@ -93,7 +93,8 @@ pub(crate) fn put_tail(out: &mut Bytes, restarts: &[u32]) -> Result<(), AllocErr
 // How many bytes so many restart offsets and their count have.
 pub(crate) fn tail_size(restarts: usize) -> usize
     requires { restarts ≤ 2 ^ 33 }
-    ensures size { (entries offsets : List ℕ) → length offsets ≡ restarts → length entries + result ≡ length (with_tail entries (or_zero offsets)) }
+    ensures size { (entries offsets : List ℕ) → length offsets ≡ restarts
+        → length entries + result ≡ length (with_tail entries (or_zero offsets)) }
     ensures within { result ≤ 2 ^ 36 }
 {
     4 * restarts.max(1) + 4

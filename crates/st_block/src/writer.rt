@@ -138,7 +138,8 @@ impl BlockWriter {
         ensures value { IsTrue result → length value.now ≤ VALUE_BYTES }
         ensures room { IsTrue result → length (finished_block (pair_added self.now key.now value.now)) < 2 ^ 32 }
         ensures roomy { length key.now ≤ INTERNAL_KEY_BYTES → length value.now ≤ VALUE_BYTES
-            → length self.now.entries + length key.now + length value.now + 4 * length self.now.restarts + 64 < 2 ^ 32 → IsTrue result }
+            → length self.now.entries + length key.now + length value.now + 4 * length self.now.restarts + 64 < 2 ^ 32
+            → IsTrue result }
     {
         key.len() <= INTERNAL_KEY_BYTES
             && value.len() <= VALUE_BYTES
