@@ -7,7 +7,7 @@ use Rattle.std.proofs.lemmas.List.Sums.{fold-append}
 use Rattle.std.proofs.lemmas.Grind.{flat_map-append}
 use Rattle.st_base.specs.declared.entry.Entry.{Entry}
 use Rattle.st_block.proofs.Writers.{holds_more}
-use Rattle.st_block.specs.Written.{Writing, pair_added as added_to_block, entries_bytes, finished_block as finished_block, last_pair_key, with_tail, or_zero, written_block, HoldsPairs as BlockHolds}
+use Rattle.st_block.specs.Written.{Writing, pair_added, entries_bytes, finished_block, last_pair_key, with_tail, or_zero, written_block, HoldsPairs as BlockHolds}
 use Rattle.table_writer.specs.Written.{Cut, Pair, closed_with, cut_more, cut_of, data_block, data_bytes, index_pairs, pair_of, table_bytes, written_blocks, written_table}
 use Rattle.table_writer.specs.Writer.{HoldsEntries, HoldsCut, Writer, entry_added, finished_table, finished_with, indexed_block, no_entries, with_closed, with_open}
 use Rattle.st_table.specs.Handle.{handle_bytes}
@@ -68,7 +68,7 @@ none_held interval = record { count = refl; entries = refl; restarts = refl; las
 cut_step : (w : Writer) (n : ℕ) (cut : Cut) (e : Entry) → HoldsCut w n cut → HoldsCut (entry_added w e) (n + 1) (cut_more cut (pair_of e))
 cut_step w n cut e h =
     let pair = pair_of e in
-    let block = added_to_block w.block pair.0 pair.1 in
+    let block = pair_added w.block pair.0 pair.1 in
     let group = cut.open_block ++ pair ∷ [] in
     let held : BlockHolds block group = holds_more w.block cut.open_block pair.0 pair.1 h.block in
     let same : leb 4096 (length block.entries) ≡ leb 4096 (length (entries_bytes 16 0 [] group)) = ap (λ (l : List ℕ). leb 4096 (length l)) (held.entries ∙ ap (λ (i : ℕ). entries_bytes i 0 [] group) h.block_interval) in

@@ -4,7 +4,7 @@ use Rattle.std.proofs.lemmas.List.{length-append}
 use Rattle.std.proofs.lemmas.Bool.{ne_eqb}
 use Rattle.st_base.specs.declared.entry.Entry.{Entry}
 use Rattle.st_block.proofs.Writers.{entry_length, tail_length}
-use Rattle.st_block.specs.Written.{Writing, pair_added as added_to_block, entries_bytes, entry_bytes, finished_block as finished_block, restarts_of, shared_of, written_block}
+use Rattle.st_block.specs.Written.{Writing, pair_added, entries_bytes, entry_bytes, finished_block, restarts_of, shared_of, written_block}
 use Rattle.st_table.specs.Footer.{footer_bytes}
 use Rattle.st_table.specs.Metaindex.{properties_name}
 use Rattle.st_table.proofs.Lengths.{footer_length, handle_short, stored_length, varint_short}
@@ -82,14 +82,14 @@ finished_either writer block false some =
     ap (λ (b : Bool). cond b (table_bytes writer.kind (writer.count + 1) writer.blocks (finished_block writer.index)) (finished_with writer.kind (writer.count + 1) writer.blocks block writer.index)) (ne_eqb block.count 0 (λ z. omega arith))
 
 pub finished_added : (writer : Writer) (e : Entry)
-    → finished_table (entry_added writer e) ≡ finished_with writer.kind (writer.count + 1) writer.blocks (added_to_block writer.block (internal_key e) (value_under e.mark)) writer.index
+    → finished_table (entry_added writer e) ≡ finished_with writer.kind (writer.count + 1) writer.blocks (pair_added writer.block (internal_key e) (value_under e.mark)) writer.index
 finished_added writer e =
-    let block = added_to_block writer.block (internal_key e) (value_under e.mark) in
+    let block = pair_added writer.block (internal_key e) (value_under e.mark) in
     finished_either writer block (leb 4096 (length block.entries)) (omega arith)
 
 -- a block with an entry more
 pub added_short : (writing : Writing) (key value : List ℕ)
-    → length (added_to_block writing key value).entries + 4 * length (added_to_block writing key value).restarts ≤ length writing.entries + 4 * length writing.restarts + length key + length value + 34
+    → length (pair_added writing key value).entries + 4 * length (pair_added writing key value).restarts ≤ length writing.entries + 4 * length writing.restarts + length key + length value + 34
 added_short writing key value =
     let shared = shared_of writing.interval writing.count writing.last key in
     let here = cond (eqb (writing.count % writing.interval) 0) (length writing.entries ∷ []) [] in

@@ -6,7 +6,7 @@ use Rattle.st_base.specs.declared.entry.Entry.{Entry}
 use Rattle.std.proofs.lemmas.List.{length-append}
 use Rattle.std.proofs.Math.Seq.{take-append_seam}
 use Rattle.st_block.proofs.Writers.{entry_some, finished_long, finished_short, tail_length}
-use Rattle.st_block.specs.Written.{Writing, pair_added as added_to_block, entry_bytes, finished_block as finished_block, shared_of, HoldsPairs as BlockHolds}
+use Rattle.st_block.specs.Written.{Writing, pair_added, entry_bytes, finished_block, shared_of, HoldsPairs as BlockHolds}
 use Rattle.st_table.specs.Footer.{greatest_size}
 use Rattle.table_writer.specs.Writer.{handle_behind, IsWriter, Writer, entry_added, finished_table, finished_with, indexed_block, no_entries, with_closed, with_open}
 use Rattle.table_writer.specs.Written.{ending, table_bytes}
@@ -22,14 +22,14 @@ use Rattle.table_writer.proofs.Sizes.{ending_short, finished_added, finished_eit
 -- ---- how long the table is
 
 pub total_is : (kind : TableKind) (count : ℕ) (blocks : List ℕ) (block index : Writing) (handle : List ℕ) (len size index_size before : ℕ)
-    → len ≡ length blocks → size ≡ length (finished_block block) → handle ≡ handle_bytes (record { offset = len; size = size }) → index_size ≡ length (finished_block (added_to_block index block.last handle)) → before ≡ len + size + 5 + index_size + 5
+    → len ≡ length blocks → size ≡ length (finished_block block) → handle ≡ handle_bytes (record { offset = len; size = size }) → index_size ≡ length (finished_block (pair_added index block.last handle)) → before ≡ len + size + 5 + index_size + 5
     → length (finished_with kind count blocks block index) ≡ before + length (ending kind count before (record { offset = len + size + 5; size = index_size }))
 total_is kind count blocks block index handle len size index_size before l s h i b =
     let b' = blocks ++ stored (finished_block block) in
     let i' = finished_block (indexed_block index (length blocks) block) in
     let same : handle ≡ handle_bytes (record { offset = length blocks; size = length (finished_block block) }) =
     h ∙ ap (λ (n : ℕ). handle_bytes (record { offset = n; size = size })) l ∙ ap (λ (n : ℕ). handle_bytes (record { offset = length blocks; size = n })) s in
-    let isize : index_size ≡ length i' = i ∙ ap (λ (x : List ℕ). length (finished_block (added_to_block index block.last x))) same in
+    let isize : index_size ≡ length i' = i ∙ ap (λ (x : List ℕ). length (finished_block (pair_added index block.last x))) same in
     let bsize : length b' ≡ len + size + 5 = omega (arith, length-append blocks (stored (finished_block block)), stored_length (finished_block block), l, s) in
     let whole : length b' + length (stored i') ≡ before = omega (arith, bsize, stored_length i', isize, b) in
     let e : length (ending kind count (length b' + length (stored i')) (record { offset = length b'; size = length i' })) ≡ length (ending kind count before (record { offset = len + size + 5; size = index_size })) =
@@ -40,19 +40,19 @@ total_is kind count blocks block index handle len size index_size before l s h i
 
 -- a bound on it with an entry more
 pub at_most : (w : Writer) (key value : List ℕ)
-    → length (finished_with w.kind (w.count + 1) w.blocks (added_to_block w.block key value) w.index) ≤ length w.blocks + length (finished_block w.block) + length (finished_block w.index) + 2 * length key + length value + 1114
+    → length (finished_with w.kind (w.count + 1) w.blocks (pair_added w.block key value) w.index) ≤ length w.blocks + length (finished_block w.block) + length (finished_block w.index) + 2 * length key + length value + 1114
 at_most w key value =
-    let block = added_to_block w.block key value in
+    let block = pair_added w.block key value in
     let len = length w.blocks in
     let size = length (finished_block block) in
     let handle = handle_bytes (record { offset = len; size = size }) in
-    let index_size = length (finished_block (added_to_block w.index key handle)) in
+    let index_size = length (finished_block (pair_added w.index key handle)) in
     let before = len + size + 5 + index_size + 5 in
     omega (arith, total_is w.kind (w.count + 1) w.blocks block w.index handle len size index_size before refl refl refl refl refl, ending_short w.kind (w.count + 1) before (record { offset = len + size + 5; size = index_size }), handle_short (record { offset = len; size = size }), finished_short w.block key value, finished_short w.index key handle, tail_length w.block.entries w.block.restarts, tail_length w.index.entries w.index.restarts)
 
 -- a bound on a block with an entry more
-pub block_at_most : (writing : Writing) (key value : List ℕ) → length (added_to_block writing key value).entries ≤ length (finished_block writing) + length key + length value + 42
-block_at_most writing key value = omega (arith, finished_long (added_to_block writing key value), finished_short writing key value, tail_length writing.entries writing.restarts)
+pub block_at_most : (writing : Writing) (key value : List ℕ) → length (pair_added writing key value).entries ≤ length (finished_block writing) + length key + length value + 42
+block_at_most writing key value = omega (arith, finished_long (pair_added writing key value), finished_short writing key value, tail_length writing.entries writing.restarts)
 
 -- ---- a writer without entries
 
@@ -82,7 +82,7 @@ new_keeps kind blocks block index b o i =
 
 -- ---- an entry more
 
-pub grows : (writing : Writing) (key value : List ℕ) → length writing.entries + 1 ≤ length (added_to_block writing key value).entries
+pub grows : (writing : Writing) (key value : List ℕ) → length writing.entries + 1 ≤ length (pair_added writing key value).entries
 grows writing key value =
     let entry = entry_bytes (shared_of writing.interval writing.count writing.last key) key value in
     omega (arith, length-append writing.entries entry, entry_some (shared_of writing.interval writing.count writing.last key) key value)
@@ -126,10 +126,10 @@ closed_is w block out next index o n i =
 
 -- the table with an entry, by its internal key and value
 pub with_entry_is : (w : Writer) (e : Entry) (key value : List ℕ) → key ≡ internal_key e → value ≡ value_under e.mark
-    → length (finished_with w.kind (w.count + 1) w.blocks (added_to_block w.block key value) w.index) ≡ length (finished_table (entry_added w e))
+    → length (finished_with w.kind (w.count + 1) w.blocks (pair_added w.block key value) w.index) ≡ length (finished_table (entry_added w e))
 with_entry_is w e key value k v =
-    ap (λ (x : List ℕ). length (finished_with w.kind (w.count + 1) w.blocks (added_to_block w.block x value) w.index)) k
-    ∙ ap (λ (x : List ℕ). length (finished_with w.kind (w.count + 1) w.blocks (added_to_block w.block (internal_key e) x) w.index)) v
+    ap (λ (x : List ℕ). length (finished_with w.kind (w.count + 1) w.blocks (pair_added w.block x value) w.index)) k
+    ∙ ap (λ (x : List ℕ). length (finished_with w.kind (w.count + 1) w.blocks (pair_added w.block (internal_key e) x) w.index)) v
     ∙ ap length (sym (finished_added w e))
 
 -- ---- the finished table
@@ -154,10 +154,10 @@ whole_of kind count at blocks index stored_blocks rest whole handle h s a r w =
 
 -- the same of the open block too
 pub with_open_block : (kind : TableKind) (count : ℕ) (blocks : List ℕ) (block index : Writing) (contents last handle index_block stored_blocks : List ℕ) → contents ≡ finished_block block → last ≡ block.last
-    → handle ≡ handle_bytes (handle_behind blocks contents) → index_block ≡ finished_block (added_to_block index last handle) → stored_blocks ≡ blocks ++ stored contents
+    → handle ≡ handle_bytes (handle_behind blocks contents) → index_block ≡ finished_block (pair_added index last handle) → stored_blocks ≡ blocks ++ stored contents
     → table_bytes kind count stored_blocks index_block ≡ finished_with kind count blocks block index
 with_open_block kind count blocks block index contents last handle index_block stored_blocks c l h i s =
     let same : handle ≡ handle_bytes (handle_behind blocks (finished_block block)) = h ∙ ap (λ (x : List ℕ). handle_bytes (handle_behind blocks x)) c in
     ap (λ (x : List ℕ). table_bytes kind count x index_block) (s ∙ ap (λ (x : List ℕ). blocks ++ stored x) c)
     ∙ ap (λ (x : List ℕ). table_bytes kind count (blocks ++ stored (finished_block block)) x)
-    (i ∙ ap (λ (x : List ℕ). finished_block (added_to_block index x handle)) l ∙ ap (λ (x : List ℕ). finished_block (added_to_block index block.last x)) same)
+    (i ∙ ap (λ (x : List ℕ). finished_block (pair_added index x handle)) l ∙ ap (λ (x : List ℕ). finished_block (pair_added index block.last x)) same)

@@ -13,7 +13,7 @@ use Rattle.st_block.specs.BlockContents.{BlockContents}
 use Rattle.st_block.specs.Written.{FitsBlock, GoOn, MayWrite, cells_of, last_pair_key, shared_of, entry_bytes, written_block}
 use Rattle.st_block.specs.declared.kind.BlockKind.{BlockKind}
 use Rattle.st_block.specs.declared.kind.BlockKind.TheVariants.{Data, Index, Plain}
-use Rattle.st_table.specs.DataBlocks.{last_cell_key as last_cell_key}
+use Rattle.st_table.specs.DataBlocks.{last_cell_key}
 use Rattle.st_table.specs.Entries.{is_behind, last_entry}
 use Rattle.st_table.specs.Footer.{greatest_size, footer_bytes}
 use Rattle.st_table.specs.IsTable.{AreDataBlocks, AreProperties, IsEntry, IsMetaindex, IsTable, entries_under, joined}

@@ -2,7 +2,7 @@
 use Rattle.std.specs.Prelude.{◌≡◌, ℕ, ◌+◌, ◌*◌, ◌^◌, ◌<◌, ◌≤◌, Bool, nat_le, ◌==◌, List, [], ◌++◌, length, map, if◌then◌else◌}
 use Rattle.st_base.specs.declared.entry.Entry.{Entry}
 use Rattle.st_block.specs.InternalKey.{internal_key, value_under}
-use Rattle.st_block.specs.Written.{Writing, pair_added as added_to_block, finished_block as finished_block, HoldsPairs as BlockHolds}
+use Rattle.st_block.specs.Written.{Writing, pair_added, finished_block, HoldsPairs as BlockHolds}
 use Rattle.st_table.specs.Footer.{greatest_size}
 use Rattle.st_table.specs.Handle.{handle_bytes}
 use Rattle.st_table.specs.Stored.{stored}
@@ -33,11 +33,11 @@ handle_behind blocks block = record { offset = length blocks; size = length bloc
 
 -- the index with an entry of the block that is stored behind these bytes, under a key
 abbrev pub indexed_behind : Writing → List ℕ → List ℕ → List ℕ → Writing
-indexed_behind index key blocks block = added_to_block index key (handle_bytes (handle_behind blocks block))
+indexed_behind index key blocks block = pair_added index key (handle_bytes (handle_behind blocks block))
 
 -- the index with the entry of a block that begins at an offset
 abbrev pub indexed_block : Writing → ℕ → Writing → Writing
-indexed_block index at block = added_to_block index block.last (handle_bytes (record { offset = at; size = length (finished_block block) }))
+indexed_block index at block = pair_added index block.last (handle_bytes (record { offset = at; size = length (finished_block block) }))
 
 -- with a block closed, or left open
 abbrev pub with_closed : Writer → Writing → Writer
@@ -57,7 +57,7 @@ with_data_block writer block = if nat_le BLOCK_BYTES (length block.entries) then
 
 -- with an internal key and a value more, or an entry
 abbrev pub with_pair : Writer → List ℕ → List ℕ → Writer
-with_pair writer key value = with_data_block writer (added_to_block writer.block key value)
+with_pair writer key value = with_data_block writer (pair_added writer.block key value)
 
 abbrev pub entry_added : Writer → Entry → Writer
 entry_added writer entry = with_pair writer (internal_key entry) (value_under entry.mark)
@@ -73,7 +73,7 @@ finished_table writer =
 
 -- the same with an internal key and a value more, and whether it is within the limit of its kind
 abbrev pub finished_more : Writer → List ℕ → List ℕ → List ℕ
-finished_more writer key value = finished_with writer.kind (writer.count + 1) writer.blocks (added_to_block writer.block key value) writer.index
+finished_more writer key value = finished_with writer.kind (writer.count + 1) writer.blocks (pair_added writer.block key value) writer.index
 
 abbrev pub FitsMore : Writer → List ℕ → List ℕ → Type 0
 FitsMore writer key value = length (finished_more writer key value) ≤ greatest_size writer.kind

@@ -1,5 +1,5 @@
 ghost use Rattle.std.specs.Prelude.{◌≡◌, ◌+◌, ◌<◌, ◌≤◌, ◌^◌, ◌++◌, length, IfOk, OnErr, OnOk};
-ghost use Rattle.st_block.specs.Written.{finished_block as finished_block};
+ghost use Rattle.st_block.specs.Written.{finished_block};
 ghost use Rattle.st_table.specs.Footer.{greatest_size};
 ghost use Rattle.st_table.specs.Handle.{handle_bytes};
 ghost use Rattle.st_table.specs.Stored.{stored};

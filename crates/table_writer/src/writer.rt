@@ -1,7 +1,7 @@
 ghost use Rattle.std.specs.Prelude.{◌≡◌, ◌+◌, ◌<◌, ◌≤◌, ◌^◌, List, [], Err, length, nat_le, IfOk, OnOk, OnErr};
 ghost use Rattle.st_base.specs.Rows.{FitsMark, entry_of, mark_of};
 ghost use Rattle.st_base.specs.declared.entry.Entry.{Entry};
-ghost use Rattle.st_block.specs.Written.{pair_added as added_to_block};
+ghost use Rattle.st_block.specs.Written.{pair_added};
 ghost use Rattle.st_table.specs.Footer.{greatest_size};
 ghost use Rattle.st_table.specs.IsTable.{IsTable};
 ghost use Rattle.table_writer.specs.Written.{MayBeTable, written_table};
@@ -145,7 +145,7 @@ impl TableWriter {
         requires value { length value.now ≤ VALUE_BYTES }
         requires room { FitsMore self.old internal.now value.now }
         ensures ok { OnOk result
-            (self.new ≡ with_closed self.old (added_to_block self.old.block internal.now value.now)) }
+            (self.new ≡ with_closed self.old (pair_added self.old.block internal.now value.now)) }
         ensures err { OnErr result (self.new ≡ self.old) }
     {
         let next = BlockWriter::new(alloc, RESTART_INTERVAL)?;
@@ -166,7 +166,7 @@ impl TableWriter {
     fn closes_with(&self, internal: &[u8], value: &[u8]) -> bool
         requires key { length internal.now ≤ INTERNAL_KEY_BYTES }
         requires value { length value.now ≤ VALUE_BYTES }
-        ensures { result ≡ nat_le BLOCK_BYTES (length (added_to_block self.now.block internal.now value.now).entries) }
+        ensures { result ≡ nat_le BLOCK_BYTES (length (pair_added self.now.block internal.now value.now).entries) }
     {
         let at_most = self.block.finished_size() + internal.len() + value.len() + BLOCK_ENTRY_BYTES;
         at_most >= BLOCK_BYTES && self.block.size_with(internal, value) >= BLOCK_BYTES

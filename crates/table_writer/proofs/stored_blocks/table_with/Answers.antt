@@ -1,5 +1,5 @@
 use Rattle.std.proofs.Common.{ℕ, ◌≡◌, ◌<◌, ◌^◌, ◌++◌, List, length, sym, ap, subst, ◌∙◌, arith}
-use Rattle.st_block.specs.Written.{pair_added as added_to_block, finished_block as finished_block}
+use Rattle.st_block.specs.Written.{pair_added, finished_block}
 use Rattle.st_table.specs.Handle.{handle_bytes}
 use Rattle.st_table.specs.Stored.{stored}
 use Rattle.table_writer.specs.Writer.{handle_behind, indexed_block}
@@ -19,8 +19,8 @@ finish_with-requires-clause-room c =
     let is : c.as_slice-2.result.now ≡ handle_bytes (handle_behind blocks (finished_block block)) =
     c.as_slice-2.ensures ∙ c.in_ok-handle.ensures.value ∙ ap handle_bytes (c.handle_behind.ensures ∙ ap (handle_behind blocks) (c.as_slice.ensures ∙ c.in_ok-contents.ensures.value)) in
     let room : length (finished_block (indexed_block index (length blocks) block)) < 2 ^ 32 = omega (arith, parts_short c.args.kind c.args.count blocks block index, c.requires, limit_short c.args.kind) in
-    subst (λ (x : List ℕ). length (finished_block (added_to_block index x c.as_slice-2.result.now)) < 2 ^ 32) (sym c.last_key.ensures.value)
-    (subst (λ (x : List ℕ). length (finished_block (added_to_block index block.last x)) < 2 ^ 32) (sym is) room)
+    subst (λ (x : List ℕ). length (finished_block (pair_added index x c.as_slice-2.result.now)) < 2 ^ 32) (sym c.last_key.ensures.value)
+    (subst (λ (x : List ℕ). length (finished_block (pair_added index block.last x)) < 2 ^ 32) (sym is) room)
 
 pub whole_table-requires : goal.whole_table-requires
 whole_table-requires c =

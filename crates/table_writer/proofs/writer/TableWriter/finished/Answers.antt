@@ -1,5 +1,5 @@
 use Rattle.std.proofs.Common.{◌≡◌, ◌≤◌, List, ℕ, length, sym, ap, subst, ◌∙◌, arith}
-use Rattle.st_block.specs.Written.{finished_block as finished_block}
+use Rattle.st_block.specs.Written.{finished_block}
 use Rattle.st_table.specs.Footer.{greatest_size}
 use Rattle.table_writer.specs.Writer.{Writer, finished_table, finished_with}
 use Rattle.st_table.proofs.Lengths.{limit_short}
