@@ -30,7 +30,7 @@ fn written(alloc: Global) -> Result<Bytes, AllocError> {
     writer.finish(alloc)
 }
 
-// The places of so many keys, added up.
+// The offsets of so many keys, added up.
 fn looked_for(block: &Block, times: u64, scratch: &mut Scratch) -> u64
     requires { IsTrue (internal_keys_rise block.now.cells) }
 {
@@ -43,7 +43,7 @@ fn looked_for(block: &Block, times: u64, scratch: &mut Scratch) -> u64
     places
 }
 
-// How many entries were tested in so many openings, and the places of so many keys that were looked for, added up.
+// How many entries were tested in so many openings, and the offsets of so many keys that were looked for, added up.
 pub(crate) fn measure(alloc: Global, opens: u64, lowers: u64) -> Result<(u64, u64), AllocError> {
     let text = written(alloc)?;
     let size = text.len();

@@ -1,6 +1,6 @@
 //! Measures sums and blocks. `crc N` sums N blocks of 65,536 bytes, and prints the sum. `open N` writes a block of 100
-//! entries, opens it N times, and prints how many entries were tested. `lower N` looks for N places in it, and prints the
-//! sum of the places. The time is taken by the script around it. Without words it does each once.
+//! entries, opens it N times, and prints how many entries were tested. `lower N` looks for N keys in it, and prints the
+//! sum of their offsets. The time is taken by the script around it. Without words it does each once.
 #![tactic(auto)]
 
 mod blocks;
@@ -11,7 +11,7 @@ use std::alloc::{AllocError, Global};
 use std::rt::Env;
 use std::{env, io};
 
-// So many bytes that differ from place to place.
+// So many bytes that differ from one to the next.
 fn some_bytes(alloc: Global, length: usize) -> Result<Bytes, AllocError> {
     let mut bytes = Bytes::new(alloc);
     for place in 0..length {

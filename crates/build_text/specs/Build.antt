@@ -1,4 +1,4 @@
--- Build text: the lines of the entries of a table, `put K V` or `del K`, each with a line feed behind it.
+-- Build text: the lines of the entries of a table, `put K V` or `del K`, each ended by a line feed.
 use Rattle.std.specs.Prelude.{◌≡◌, ⊤, ℕ, Bool, true, not, ◌&&◌, ◌+◌, nat_le, length, List, [], ◌∷◌, ◌++◌, codes, flat_map}
 use Rattle.std.specs.Prelude.{if◌then◌else◌, IsTrue, IsFalse, Option, Some, None, Result, Ok, Err}
 use Rattle.std.specs.List.{join_with_byte}
@@ -29,7 +29,7 @@ build_words key Gone = codes "del" ∷ word key ∷ []
 abbrev pub build_line : Entry → List ℕ
 build_line entry = join_with_byte 32 (build_words entry.key entry.mark) ++ 10 ∷ []
 
--- the lines of the entries, one behind the other
+-- the lines of the entries, one after the other
 abbrev pub build_text : List Entry → List ℕ
 build_text entries = flat_map build_line entries
 
@@ -103,7 +103,7 @@ with_found fits entries number (Some entry) = with_line_entry fits entries numbe
 abbrev pub with_build_line : (List Entry → Bool) → List Entry → ℕ → List ℕ → Result (List Entry) BuildFault
 with_build_line fits entries number line = with_found fits entries number (entry_of_line line)
 
--- nothing stands behind the last line feed; else that is a faulty line
+-- nothing follows the last line feed; else that is a faulty line
 abbrev pub at_end : List Entry → ℕ → List ℕ → Result (List Entry) BuildFault
 at_end entries number [] = Ok entries
 at_end entries number (byte ∷ bytes) = Err (Line number)
@@ -150,20 +150,20 @@ line_fault_of_word spelling.NotAWord = one.Line
 line_fault_of_word spelling.TooLong = one.TooLarge
 line_fault_of_word spelling.OutOfMemory = one.OutOfMemory
 
--- it is the entry of the line, within the limits, or the line's fault, unless memory is wanted
+-- it is the entry of the line, within the limits, or the line's fault, unless memory runs out
 abbrev pub GivesEntry : Result LineEntry BuildLineFault → Option Entry → Type 0
 GivesEntry (Ok found) reading = (reading ≡ Some (entry_in_line found)) × IsTrue (is_within (entry_in_line found))
 GivesEntry (Err one.Line) reading = reading ≡ None
 GivesEntry (Err one.TooLarge) reading = (entry : Entry) × (reading ≡ Some entry) × IsFalse (is_within entry)
 GivesEntry (Err one.OutOfMemory) reading = ⊤
 
--- it is what the text gives, unless memory is wanted
+-- it is what the text gives, unless memory runs out
 abbrev pub GivesEntries : Result (List Entry) BuildFault → Result (List Entry) BuildFault → Type 0
 GivesEntries (Ok entries) reading = reading ≡ Ok entries
 GivesEntries (Err OutOfMemory) reading = ⊤
 GivesEntries (Err fault) reading = reading ≡ Err fault
 
--- these are the entries now, or it is this fault, unless memory is wanted
+-- these are the entries now, or it is this fault, unless memory runs out
 abbrev pub GivesMore : {X : Type 0} → Result X BuildFault → List Entry → Result (List Entry) BuildFault → Type 0
 GivesMore (Ok done) entries reading = reading ≡ Ok entries
 GivesMore (Err OutOfMemory) entries reading = ⊤

@@ -89,14 +89,14 @@ bytes_of_word (first ∷ rest) = if same (first ∷ rest) (codes "\\e") then Som
 
 -- ---- what a reader returned
 
--- it is what the word stands for, unless memory is wanted; too many bytes pass this limit
+-- it is what the word stands for, unless memory runs out; too many bytes pass this limit
 abbrev pub GivesBytes : Result (Bor (List ℕ)) WordFault → ℕ → Option (List ℕ) → Type 0
 GivesBytes (Ok bytes) limit reading = (reading ≡ Some bytes.now) × (length bytes.now ≤ limit)
 GivesBytes (Err NotAWord) limit reading = reading ≡ None
 GivesBytes (Err TooLong) limit reading = (bytes : List ℕ) × (reading ≡ Some bytes) × (limit < length bytes)
 GivesBytes (Err OutOfMemory) limit reading = ⊤
 
--- these bytes are what is spelled, unless memory is wanted
+-- these bytes are what is spelled, unless memory runs out
 abbrev pub GivesSpelled : {X : Type 0} → Result X WordFault → List ℕ → Option (List ℕ) → Type 0
 GivesSpelled (Ok done) bytes reading = reading ≡ Some bytes
 GivesSpelled (Err NotAWord) bytes reading = reading ≡ None

@@ -123,8 +123,8 @@ pub(crate) fn read_build_line<'a>(
     Err(BuildLineFault::Line)
 }
 
-/// Puts the line of an entry of a build text at the end, line feed included: `put K V`, or `del K` for a tombstone. The
-/// sequence number isn't shown. An error leaves what was there, and maybe a part of the line behind it.
+/// Appends the line of an entry of a build text, line feed included: `put K V`, or `del K` for a tombstone. The
+/// sequence number isn't shown. An error leaves what was there, and maybe a part of the line after it.
 pub fn push_build_line(out: &mut Bytes, entry: EntryRef<'_>) -> Result<(), AllocError>
     ensures ok { OnOk result (out.new ≡ out.old ++ build_line (entry_of entry.entry)) }
     ensures err { OnErr result (Extends out.old out.new) }

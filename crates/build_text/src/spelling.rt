@@ -57,7 +57,7 @@ fn escaped_byte(high: u8, low: u8) -> Option<u8>
     if is_plain(byte) { None } else { Some(byte) }
 }
 
-// The byte at the front of a spelling that isn't empty, and what stands behind it.
+// The byte at the front of a spelling that isn't empty, and what follows it.
 fn first_byte(spelling: &[u8]) -> Option<(u8, &[u8])>
     requires { 0 < length spelling.now }
     ensures first { MatchOption result (spelled_bytes spelling.now ≡ None)
@@ -147,7 +147,7 @@ fn hex_digit(digit: u8) -> u8
     }
 }
 
-// Puts the byte's spelling at the end.
+// Appends the byte's spelling.
 fn push_byte(out: &mut Bytes, byte: u8) -> Result<(), AllocError>
     ensures ok { OnOk result (out.new ≡ out.old ++ byte_word byte) }
     ensures err { OnErr result (Extends out.old out.new) }
@@ -159,8 +159,8 @@ fn push_byte(out: &mut Bytes, byte: u8) -> Result<(), AllocError>
     out.extend_from_slice(spelling.as_slice())
 }
 
-/// Puts the word of the bytes at the end: their only spelling. An error leaves what was there, and maybe a part of the word
-/// behind it.
+/// Appends the word of the bytes: their only spelling. An error leaves what was there, and maybe a part of the word
+/// after it.
 #[tactic(auto, using(crate::proofs::SpelledBytes::plain_printed))]
 pub fn push_word(out: &mut Bytes, bytes: &[u8]) -> Result<(), AllocError>
     ensures ok { OnOk result (out.new ≡ out.old ++ word bytes.now) }

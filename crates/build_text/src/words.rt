@@ -4,14 +4,14 @@ ghost use Rattle.build_text.specs.Words.{one_word, parts_at, three_words, two_wo
 
 use std::marker::Model;
 
-// The place of the first such byte.
+// The index of the first such byte.
 fn find_byte(bytes: &[u8], wanted: u8) -> Option<usize>
     ensures { result ≡ position (λ byte. byte == wanted) bytes.now }
 {
     bytes.iter().position(|byte| *byte == wanted)
 }
 
-/// Cuts the bytes at the first such byte: what stands before it, and what stands behind it. None exactly where there is none.
+/// Cuts the bytes at the first such byte: what stands before it, and what follows it. None exactly where there is none.
 pub fn split_once(bytes: &[u8], separator: u8) -> Option<(&[u8], &[u8])>
     ensures cut { IfSome result (λ cut. bytes.now ≡ cut.0.now ++ separator ∷ cut.1.now) }
     ensures parts { MatchOption result (parts_at separator bytes.now ≡ bytes.now ∷ [])

@@ -96,7 +96,7 @@ fault_of_word spelling.NotAWord = Mismatch
 fault_of_word spelling.TooLong = Mismatch
 fault_of_word spelling.OutOfMemory = OutOfMemory
 
--- it is what is read by the rules above, unless memory is wanted
+-- it is what is read by the rules above, unless memory runs out
 abbrev pub Gives : {X : Type 0} → Result X ParseFault → Option X → Type 0
 Gives (Ok x) reading = reading ≡ Some x
 Gives (Err Mismatch) reading = reading ≡ None

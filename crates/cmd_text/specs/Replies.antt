@@ -11,7 +11,7 @@ use Rattle.cmd_text.specs.declared.fault.ParseFault.{ParseFault}
 use Rattle.cmd_text.specs.declared.fault.ParseFault.TheVariants.{Mismatch}
 use Rattle.cmd_text.specs.declared.fault.ParseFault.TheVariants as parse
 
--- a refusal that a transcript can have: want of memory has no printed form
+-- a refusal that a transcript can have: `OutOfMemory` has no printed form
 abbrev pub IsPrintedRefusal : Refusal → Type 0
 IsPrintedRefusal (UnknownFamily name) = IsTrue (is_family name)
 IsPrintedRefusal OutOfMemory = ⊥
@@ -26,7 +26,7 @@ IsPrinted (Refused refusal) = IsPrintedRefusal refusal
 
 -- ---- what a reader returned
 
--- it is this, unless memory is wanted
+-- it is this, unless memory runs out
 abbrev pub GivesBack : {X : Type 0} → Result X ParseFault → X → Type 0
 GivesBack (Ok found) wanted = found ≡ wanted
 GivesBack (Err Mismatch) wanted = ⊥
@@ -34,7 +34,7 @@ GivesBack (Err parse.OutOfMemory) wanted = ⊤
 
 -- ---- what is printed
 
--- words, each behind a space
+-- words, each after a space
 abbrev pub spaced : List (List ℕ) → List ℕ
 spaced words = flat_map (λ word. 32 ∷ word) words
 

@@ -16,7 +16,7 @@ is_command_line (byte ∷ bytes) = not (byte == 35)
 abbrev pub command_lines : List ℕ → List (ℕ × List ℕ)
 command_lines text = filter (λ line. is_command_line line.1) (enumerate_from 1 (lines text))
 
--- the command of a line that stands behind so many commands: a client file has at most 20,000
+-- the command of a line that follows so many commands: a client file has at most 20,000
 abbrev pub command_behind : ℕ → List ℕ → Option Command
 command_behind before line = if nat_lt before 20000 then command_of line else None
 
@@ -26,7 +26,7 @@ in_front number None others = Err number
 in_front number (Some command) (Err fault) = Err fault
 in_front number (Some command) (Ok commands) = Ok (record { line = number; command = command } ∷ commands)
 
--- the commands of these lines, behind so many; or the number of the first line that isn't a command
+-- the commands of these lines, after so many; or the number of the first line that isn't a command
 abbrev pub commands_of : ℕ → List (ℕ × List ℕ) → Result (List Numbered) ℕ
 commands_of before [] = Ok []
 commands_of before (line ∷ lines) = in_front line.0 (command_behind before line.1) (commands_of (before + 1) lines)

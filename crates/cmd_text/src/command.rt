@@ -97,7 +97,6 @@ fn read_named(alloc: Global, name: &[u8], arguments: Words<'_>) -> Result<Comman
     Err(ParseFault::Mismatch)
 }
 
-// The command of the line.
 pub(crate) fn read_command(alloc: Global, line: &[u8]) -> Result<Command, ParseFault>
     ensures { Gives result (command_of line.now) }
 {

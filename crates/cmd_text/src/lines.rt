@@ -12,7 +12,7 @@ pub(crate) fn is(bytes: &[u8], word: &[u8]) -> bool
     bytes == word
 }
 
-// The first line, without its line feed, and what stands behind that.
+// The first line, without its line feed, and what follows that.
 pub(crate) fn cut_line(text: &[u8]) -> (&[u8], &[u8])
     requires { 0 < length text.now }
     ensures lines { lines text.now ≡ result.0.now ∷ lines result.1.now }

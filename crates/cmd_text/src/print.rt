@@ -9,7 +9,7 @@ use st_base::Bytes;
 use st_model::{Refusal, Reply};
 use std::alloc::{AllocError, Global};
 
-// Puts the number's decimal digits at the end.
+// Appends the number's decimal digits.
 #[tactic(auto, using(std::proofs::lemmas::Fmt::decimal_digit, std::proofs::lemmas::Fmt::decimal_step))]
 fn push_number(out: &mut Bytes, number: u64) -> Result<(), AllocError>
     ensures ok { OnOk result (out.new ≡ out.old ++ decimal number) }
@@ -22,7 +22,7 @@ fn push_number(out: &mut Bytes, number: u64) -> Result<(), AllocError>
     out.push(b'0' + (number % 10) as u8)
 }
 
-// Puts the refusal's words at the end, each behind a space.
+// Appends the refusal's words, each after a space.
 fn push_refusal(out: &mut Bytes, refusal: &Refusal) -> Result<(), AllocError>
     ensures ok { OnOk result (out.new ≡ out.old ++ refusal_text refusal.now) }
     ensures err { OnErr result (Extends out.old out.new) }
@@ -40,7 +40,7 @@ fn push_refusal(out: &mut Bytes, refusal: &Refusal) -> Result<(), AllocError>
     }
 }
 
-// Puts the reply's words at the end, each behind a space.
+// Appends the reply's words, each after a space.
 #[tactic(auto, using(crate::proofs::Printing::written, crate::proofs::Printing::found, crate::proofs::Printing::refused))]
 fn push_reply_words(out: &mut Bytes, reply: &Reply) -> Result<(), AllocError>
     ensures ok { OnOk result (out.new ≡ out.old ++ reply_text reply.now) }
@@ -63,8 +63,8 @@ fn push_reply_words(out: &mut Bytes, reply: &Reply) -> Result<(), AllocError>
     }
 }
 
-/// Puts the line of a place and its reply at the end, line feed included. An error leaves what was there, and
-/// maybe a part of the line behind it.
+/// Appends the line of a place and its reply, line feed included. An error leaves what was there, and
+/// maybe a part of the line after it.
 #[tactic(auto, using(crate::proofs::Printing::line))]
 pub fn push_reply(out: &mut Bytes, place: u64, reply: &Reply) -> Result<(), AllocError>
     ensures ok { OnOk result (out.new ≡ out.old ++ line_of place reply.now) }
@@ -75,8 +75,8 @@ pub fn push_reply(out: &mut Bytes, place: u64, reply: &Reply) -> Result<(), Allo
     out.push(b'\n')
 }
 
-/// The line of a place and its reply, line feed included: the place, then the reply's words, each behind a space.
-/// Bytes are spelled as one word; want of memory, as a refusal, has no printed form of its own.
+/// The line of a place and its reply, line feed included: the place, then the reply's words, each after a space.
+/// Bytes are spelled as one word; `OutOfMemory`, as a refusal, has no printed form of its own.
 pub fn print_reply(alloc: Global, place: u64, reply: &Reply) -> Result<Bytes, AllocError>
     ensures { IfOk result (λ line. line ≡ line_of place reply.now) }
 {

@@ -21,7 +21,7 @@ pub struct Script {
     pub commands: List<Numbered>,
 }
 
-// Whether the line is a command, and isn't passed over.
+// Whether the line is a command, and isn't skipped.
 fn is_command_line(line: &[u8]) -> bool
     ensures { result ≡ is_command_line line.now }
 {
@@ -57,7 +57,7 @@ fn read_line(
 }
 
 /// Reads a client file: its lines are parted by line feeds, its words by one space, and a line that is empty or
-/// begins with `#` is passed over. `Line` names the first line that should be a command and isn't one, or passes a
+/// begins with `#` is skipped. `Line` names the first line that should be a command and isn't one, or passes a
 /// limit of a key, a value or the 20,000 commands; `OutOfMemory` may come for any text. A text has fewer than
 /// 4,294,967,295 bytes, so that its lines can be numbered.
 #[tactic(auto, using(crate::proofs::Behind::whole_begin, crate::proofs::Behind::whole_line, crate::proofs::Behind::whole_fault))]

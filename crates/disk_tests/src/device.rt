@@ -1,4 +1,3 @@
-// The disks in memory.
 ghost use Rattle.std.specs.Prelude.{◌≡◌, None};
 ghost use Rattle.st_device.specs.Disk.{IsHonest};
 

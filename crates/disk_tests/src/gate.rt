@@ -1,4 +1,3 @@
-// The gated log.
 ghost use Rattle.std.specs.Prelude.{◌≡◌, None};
 ghost use Rattle.st_device.specs.Disk.{IsHonest};
 ghost use Rattle.st_gate.specs.Rest.{IsAtRest};
@@ -126,7 +125,7 @@ fn a_root_log_has_its_bytes(rt: HostRuntime) -> Result<(), Fail> {
     Ok(())
 }
 
-// Whether file 1 is read as a log of roots with so many records, or with its damage at this place.
+// Whether file 1 is read as a log of roots with so many records, or with its damage at this offset.
 fn is_read_as<D: Disk>(alloc: Global, disk: &mut D, want: Result<usize, u64>) -> bool {
     match GateLog::replay(alloc, disk, 1, LogKind::Root) {
         Ok((records, _)) => want == Ok(records.len()),
@@ -165,7 +164,7 @@ fn a_cut_has_its_place(rt: HostRuntime) -> Result<(), Fail> {
     Ok(())
 }
 
-// The bytes from a place up to another one are made this byte, and what the three records then are read as.
+// The bytes from an offset up to another one are made this byte, and what the three records then are read as.
 const CHANGES: [(usize, usize, u8, Result<usize, u64>); 10] = [
     (0, 1, 7, Err(0)),
     (7, 8, b'2', Err(0)),
@@ -179,7 +178,7 @@ const CHANGES: [(usize, usize, u8, Result<usize, u64>); 10] = [
     (53, 54, 1, Err(53)),
 ];
 
-// Whether the three records are read so, with this byte from a place up to another one.
+// Whether the three records are read so, with this byte from an offset up to another one.
 fn changed_are_read_as(
     alloc: Global,
     from: usize,

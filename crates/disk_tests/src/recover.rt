@@ -1,4 +1,3 @@
-// Recovery.
 use crate::disks::{FATES, left_by};
 use crate::puts::{append_both, one_put};
 use log_recover::{OpenFault, recover};
@@ -7,7 +6,7 @@ use st_wal::LogRecord;
 use std::alloc::Global;
 use std::test::Fail;
 
-// Whether the disk opens to so many operations, or is damaged at this place of the log.
+// Whether the disk opens to so many operations, or is damaged at this offset of the log.
 fn opens_as<D: Disk>(alloc: Global, disk: &mut D, want: Result<usize, u64>) -> bool {
     match recover(alloc, disk) {
         Ok((operations, _)) => want == Ok(operations.len()),
@@ -25,7 +24,7 @@ fn write_both<D: Disk>(alloc: Global, disk: &mut D, one: &LogRecord, two: &LogRe
 }
 
 // The numbers of two operations, the family of the second, and how many operations a store of them opens to, or the
-// place of its damage.
+// offset of its damage.
 const OPENED: [(u64, u64, u32, Result<usize, u64>); 6] = [
     (1, 2, 0, Ok(2)),
     (5, 9, 0, Ok(2)),

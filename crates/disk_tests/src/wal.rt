@@ -1,4 +1,3 @@
-// The write-ahead log.
 ghost use Rattle.std.specs.Prelude.{◌≡◌, None};
 ghost use Rattle.st_device.specs.Disk.{IsHonest};
 
@@ -37,7 +36,7 @@ fn make_and_append<D: Disk>(disk: &mut D, one: &LogRecord, two: &LogRecord) -> O
     }
 }
 
-// Whether the operation has this number, in a record at this place.
+// Whether the operation has this number, in a record at this offset.
 fn is_at(logged: &Logged, number: u64, at: u64) -> bool {
     logged.number == number && logged.at == at
 }
@@ -92,7 +91,7 @@ fn a_crash_leaves_whole_writes(rt: HostRuntime) -> Result<(), Fail> {
     Ok(())
 }
 
-// Payloads, and how many operations a log of one such record has, or the place of its damage.
+// Payloads, and how many operations a log of one such record has, or the offset of its damage.
 const PAYLOADS: [(&[u8], Result<usize, u64>); 13] = [
     (b"\x01\0\0\0\0\0\0\0\0\0\0\0", Ok(0)),
     (b"\x01\0\0\0\0\0\0\0\0\0\0", Err(8)),
@@ -139,7 +138,7 @@ fn write_payload<D: Disk>(disk: &mut D, payload: &[u8]) -> Result<(), Fail>
     Ok(())
 }
 
-// Whether file 3 is read as a log with so many operations, or with its damage at this place.
+// Whether file 3 is read as a log with so many operations, or with its damage at this offset.
 fn is_read_as<D: Disk>(alloc: Global, disk: &mut D, want: Result<usize, u64>) -> bool {
     match Wal::replay(alloc, disk, 3) {
         Ok((operations, _)) => want == Ok(operations.len()),

@@ -1,4 +1,3 @@
-// The disk in a folder.
 use real_files::FolderDisk;
 use st_device::{Disk, Failed, write_durably};
 use std::alloc::Global;

@@ -13,7 +13,7 @@ fn is_read<I: Inputs>(alloc: Global, inputs: &mut I, want: &[u8]) -> bool {
     }
 }
 
-// Whether the file `sample` is read whole, and from a place on.
+// Whether the file `sample` is read whole, and from an offset on.
 fn is_there<I: Inputs>(alloc: Global, inputs: &mut I) -> bool {
     is_read(alloc, inputs, b"abc") && inputs.read("sample", 2, &mut [0; 9]) == Ok(1)
 }

@@ -36,7 +36,7 @@ pub record EngineSteps (old new : MarkStore) (was is : Option ℕ) (before after
   pub crash : IsHonest before → was ≡ None → Leaves (IsOfCall state call) before after_it
   pub whole : IsHonest before → is ≡ None → (image : Image) → after_it.now image → OpensTo (after state call) image
 
--- the engine has answered the command, and the line of the answer stands behind the text
+-- the engine has answered the command, and the line of the answer is appended to the text
 pub record Prints (old new : MarkStore) (was is : Option ℕ) (before after_it : DiskTold) (command : Command) (text_before text_after : List ℕ) : Type 0 where
   pub answer : Answer
   pub steps : (state : ModelState) → StandsForState old state → EngineSteps old new was is before after_it state (answered_call command answer)

@@ -103,7 +103,7 @@ abbrev pub unfinished : FinishFault → BuildFault
 unfinished finish.NoEntry = build.NoEntry
 unfinished finish.OutOfMemory = build.OutOfMemory
 
--- what a writer of a build text's table has found out: its table, or its first fault, unless memory is wanted
+-- what a writer of a build text's table has found out: its table, or its first fault, unless memory runs out
 abbrev pub GivesTable : Result (List ℕ) BuildFault → Result (List Entry) BuildFault → Type 0
 GivesTable (Ok table) reading = (entries : List Entry) × (reading ≡ Ok entries) × (table ≡ written_table External entries)
 GivesTable (Err build.OutOfMemory) reading = Unit {0}

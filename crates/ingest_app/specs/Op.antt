@@ -13,7 +13,7 @@ abbrev pub stranger_of : Command → Option (List ℕ)
 stranger_of (Write batch) = slice_get (strangers batch.ops) 0
 stranger_of (Get family key) = slice_get (strange_names (family ∷ [])) 0
 
--- the family of which a refusal says that it isn't there
+-- the family that a refusal says is unknown
 abbrev pub refused_name : Refusal → Option (List ℕ)
 refused_name (UnknownFamily name) = Some name
 refused_name Stopped = None

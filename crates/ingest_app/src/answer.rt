@@ -23,7 +23,7 @@ pub struct Answer {
     pub reply: Reply,
 }
 
-// The refusal, which a transcript shows. Want of memory isn't one.
+// The refusal, which a transcript shows. `OutOfMemory` isn't one.
 fn shown(refusal: Refusal) -> Result<Refusal, AllocError>
     ensures same { IfOk result (λ shown. shown ≡ refusal) }
     ensures memory { OnOk result (refusal ≡ Refusal.OutOfMemory → ⊥) }
@@ -34,7 +34,6 @@ fn shown(refusal: Refusal) -> Result<Refusal, AllocError>
     }
 }
 
-// Answers a write.
 fn answer_write<D: Disk>(engine: &mut Engine<D>, batch: &Batch) -> Result<Answer, AllocError>
     requires limits { IsWrite batch.now.ops }
     requires tied { IsHonest (D.tells engine.old.disk) → engine.old.stopped ≡ None → IsTied engine.old.wal engine.old.store (D.tells engine.old.disk) }
@@ -57,7 +56,6 @@ fn answer_write<D: Disk>(engine: &mut Engine<D>, batch: &Batch) -> Result<Answer
     }
 }
 
-// Answers a read.
 fn answer_get<D: Disk>(engine: &Engine<D>, family: &Family, key: &Key) -> Result<Answer, AllocError>
     ensures { IfOk result (λ answer. (state : ModelState) → StandsForState engine.now.store state → (answer.place ≡ state.place) × (answer.reply ≡ get_answer state state.last family.now key.now)) }
 {
@@ -78,7 +76,7 @@ fn answer_get<D: Disk>(engine: &Engine<D>, family: &Family, key: &Key) -> Result
     }
 }
 
-/// Answers a command, which is within the limits of a write. After want of memory the engine isn't used again.
+/// Answers a command, which is within the limits of a write. After memory ran out the engine isn't used again.
 pub fn answer_command<D: Disk>(
     engine: &mut Engine<D>,
     command: &Command,

@@ -31,7 +31,7 @@ fn heading(alloc: Global, name: &str) -> Result<Bytes, AllocError>
     Ok(text)
 }
 
-// Answers one command, and prints the answer behind the text.
+// Answers one command, and appends the answer's line to the text.
 fn print_answer<D: Disk>(
     engine: &mut Engine<D>,
     command: &Command,

@@ -154,7 +154,6 @@ pub fn convert<S: Source, K: Sink>(
     ensures done { result ≡ Status.Done → IsSomeAnd (conversion_of (map string_bytes words.now)) (λ form. IsTrue (S.tells source.old).known → IsConvertible form (S.tells source.old).left) }
     ensures refused { result ≡ Status.Refused → IsSomeAnd (conversion_of (map string_bytes words.now)) (λ form. IsTrue (S.tells source.old).known → IsUnconvertible form (S.tells source.old).left) }
 
-    // Want of memory writes nothing.
     ensures memory { result ≡ Status.Memory → Writes (K.tells sink.old) (K.tells sink.new) [] }
 
     // Words that ask for a conversion are answered, where nothing fails and memory is there.

@@ -8,7 +8,7 @@ pub enum Status {
     Done,
     /// The source is no build text of a table, or no external table: `refused` and the cause are written.
     Refused,
-    /// Memory is wanted, and nothing is written.
+    /// Memory runs out, and nothing is written.
     Memory,
     /// The input files have failed: `input NAME` is written. Or the source has: `input` is written.
     InputFault,

@@ -1,4 +1,3 @@
-//! The top call.
 ghost use Rattle.std.specs.Prelude.{◌≡◌, ◌⊎◌, [], List, ℕ, None, Ok, Err, IsTrue, IsOk, IsSome, IsSomeAnd, MatchOption, map, String, string_bytes};
 ghost use Rattle.st_base.specs.Count.{Rose};
 ghost use Rattle.st_device.specs.Disk.{IsHonest, Passes};
@@ -84,7 +83,6 @@ pub fn run<D: Disk, I: Inputs, S: Source, K: Sink>(
     ensures done { result.0 ≡ Status.Done → MatchOption (conversion_of (map string_bytes words.now)) (IsTrue (I.tells inputs.old).known → HasScript (map string_bytes words.now) (I.tells inputs.old)) (λ form. IsTrue (S.tells source.old).known → IsConvertible form (S.tells source.old).left) }
     ensures refused { result.0 ≡ Status.Refused → IsSomeAnd (conversion_of (map string_bytes words.now)) (λ form. IsTrue (S.tells source.old).known → IsUnconvertible form (S.tells source.old).left) }
 
-    // Want of memory writes nothing.
     ensures memory { result.0 ≡ Status.Memory → Writes (K.tells sink.old) (K.tells sink.new) [] }
 
     // Words that ask for a run of a script over a store, or for a conversion, are answered, where nothing fails and memory

@@ -17,7 +17,7 @@ use Rattle.st_wal.specs.declared.logged.Logged.{Logged}
 use Rattle.log_engine.specs.Newest.{newest_at, shown}
 use Rattle.log_engine.specs.declared.store.MarkStore.{MarkStore}
 
--- each key is below those behind it
+-- each key is below those after it
 abbrev pub AreRising : List (List ℕ) → Type 0
 AreRising [] = ⊤
 AreRising (key ∷ keys) = Each (λ other. bytes_cmp key other ≡ Less) keys × AreRising keys
@@ -70,7 +70,7 @@ pub record IsAdvanced (old new : MarkStore) (count sum : ℕ) : Type 0 where
   pub behind : new.behind ≡ old.behind
   pub capacity : new.capacity ≡ old.capacity
 
--- the first of the refusals that hold is this one, or none of them holds; a fault and want of memory aren't among them
+-- the first of the refusals that hold is this one, or none of them holds; a fault and `OutOfMemory` aren't among them
 abbrev pub IsFirst : List Refusal → Refusal → Type 0
 IsFirst refusals (UnknownFamily name) = slice_get refusals 0 ≡ Some (UnknownFamily name)
 IsFirst refusals NumbersSpent = slice_get refusals 0 ≡ Some NumbersSpent

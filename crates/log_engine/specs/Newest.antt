@@ -15,7 +15,7 @@ flat (Some mark) = mark
 abbrev pub newest_at : Newest → List ℕ → Option Mark
 newest_at newest key = flat (get bytes_cmp newest.map key)
 
--- there is a place for the key's mark
+-- there is a slot for the key's mark
 abbrev pub HasRoom : Newest → List ℕ → Type 0
 HasRoom newest key = IsSome (get bytes_cmp newest.map key)
 

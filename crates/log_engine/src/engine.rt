@@ -1,4 +1,3 @@
-// The engine.
 ghost use Rattle.std.specs.Prelude.{◌≡◌, ◌⊎◌, ◌+◌, ◌≤◌, ◌<◌, ◌↔◌, ◌++◌, ◌∷◌, [], ℕ, List, IfErr, IfOk, IsErr, IsErrOf, IsSome, OnErr, OnOk, None, Some, false, length, map, is_ok};
 ghost use Rattle.std.specs.List.{AllByRecursion as Each};
 ghost use Rattle.st_base.specs.Entries.{add_charge};
@@ -55,7 +54,7 @@ impl<D: Disk> Engine<D> {
     ghost use Rattle.log_engine.specs.MarkStore.{IsAdvanced, IsFirst, StandsForState};
 
     /// Opens the store of a disk, or makes it where it isn't there. Every refusal hands the disk back. `Damaged` comes
-    /// exactly where the disk reads a store that is damaged; a fault of the disk or want of memory may come in its place.
+    /// exactly where the disk reads a store that is damaged; a disk fault or `OutOfMemory` may come instead.
     pub fn open(alloc: Global, mut disk: D, options: Options) -> Result<Engine<D>, (D, OpenFault)>
         // The store stands for the state that an opening makes of the contents that the disk reads.
         ensures opened { IfOk result (λ engine. IsOpened (D.tells disk) options.behind engine.store) }
@@ -121,7 +120,7 @@ impl<D: Disk> Engine<D> {
         self.disk
     }
 
-    /// What the key reads now. The refusals are that of a family that isn't there, and want of memory.
+    /// What the key reads now. The refusals are `UnknownFamily` and `OutOfMemory`.
     pub fn read_now(&self, family: &Family, key: &Key) -> Result<Option<Value>, ChangeFault>
         ensures ok { IfOk result (λ value. (state : ModelState) → StandsForState self.now.store state
             → get_answer state state.last family.now key.now ≡ found value) }
@@ -132,7 +131,7 @@ impl<D: Disk> Engine<D> {
         self.store.read(family, key)
     }
 
-    // Logs the operations of a write, whose keys have places, and takes them in.
+    // Logs the operations of a write, whose keys have slots, and takes them in.
     fn append(
         &mut self,
         encoded: &LogRecord,
@@ -174,7 +173,7 @@ impl<D: Disk> Engine<D> {
 
     /// Makes a write, durably: all its operations or none. The batch is within the limits of a write.
     ///
-    /// The refusals come in this order: that a fault stopped the engine before, a family that isn't there, numbers spent,
+    /// The refusals come in this order: that a fault stopped the engine before, an unknown family, numbers spent,
     /// the store full, a disk fault. All memory is taken before the first device call.
     pub fn write(&mut self, batch: &Batch) -> Result<AcceptedWrite, ChangeFault>
         requires limits { IsWrite batch.now.ops }

@@ -17,7 +17,7 @@ use st_wal::Operation;
 use std::alloc::{AllocError, Global};
 use std::collections::BTreeMap;
 
-/// The newest mark of each key. A key may have a place without a mark, so that setting its mark takes no memory.
+/// The newest mark of each key. A key may have a slot without a mark, so that setting its mark takes no memory.
 #[derive(Drop)]
 pub struct Newest {
     map: BTreeMap<Key, Option<Mark>>,
@@ -54,7 +54,7 @@ impl Newest {
         }
     }
 
-    /// Makes a place for the key's mark. The marks stay, with every answer.
+    /// Makes a slot for the key's mark. The marks stay, with every answer.
     pub fn make_room(&mut self, key: &Key) -> Result<(), AllocError>
         ensures unchanged { (other : List ℕ) → newest_at self.new other ≡ newest_at self.old other }
         ensures room { OnOk result (HasRoom self.new key.now) }
@@ -66,7 +66,7 @@ impl Newest {
         Ok(())
     }
 
-    /// Sets the mark of a key that has a place, or takes it away.
+    /// Sets the mark of a key that has a slot, or takes it away.
     pub fn set(&mut self, key: &Key, mark: Option<Mark>)
         ensures set { HasRoom self.old key.now → (other : List ℕ)
             → newest_at self.new other ≡ (if same key.now other then mark else newest_at self.old other) }
@@ -77,7 +77,7 @@ impl Newest {
         }
     }
 
-    /// Makes a place for the mark of each key that the operations name. The marks stay, with every answer.
+    /// Makes a slot for the mark of each key that the operations name. The marks stay, with every answer.
     pub fn make_rooms(&mut self, ops: &[Op]) -> Result<(), AllocError>
         ensures unchanged { (key : List ℕ) → newest_at self.new key ≡ newest_at self.old key }
         ensures room { OnOk result (Each (λ op. HasRoom self.new (op_key op)) ops.now) }
@@ -88,7 +88,7 @@ impl Newest {
         Ok(())
     }
 
-    /// Sets the marks of the operations, in order. Their keys have places, so it takes no memory.
+    /// Sets the marks of the operations, in order. Their keys have slots, so it takes no memory.
     pub fn set_all(&mut self, operations: Vec<Operation>)
         requires { Each (λ operation. HasRoom self.old operation.1) operations.items }
         ensures { (key : List ℕ) → newest_at self.new key ≡ marks_after_all (newest_at self.old) operations.items key }

@@ -51,7 +51,7 @@ pub fn charge_with(charge: u64, ops: &[Op]) -> u64
     sum
 }
 
-/// The first family that isn't there.
+/// The first unknown family.
 pub fn first_stranger(ops: &[Op]) -> Option<&Family>
     ensures { option_copied result ≡ slice_get (strangers ops.now) 0 }
 {

@@ -1,4 +1,3 @@
-// The store in memory.
 ghost use Rattle.std.specs.Prelude.{◌≡◌, ◌+◌, ◌≤◌, ◌<◌, ◌∷◌, [], ℕ, List, length, map, slice_get, IfErr, IfOk, IfNone, IfSome, OnOk, false, None, Some};
 ghost use Rattle.std.specs.List.{AllByRecursion as Each};
 ghost use Rattle.st_base.specs.Map.{value_at};
@@ -135,7 +134,7 @@ impl MarkStore {
         Ok(None)
     }
 
-    /// What the key reads. The one refusal of the store's own is that of a family that isn't there.
+    /// What the key reads. The one refusal of the store's own is `UnknownFamily`.
     pub fn read(&self, family: &Family, key: &Key) -> Result<Option<Value>, ChangeFault>
         ensures ok { IfOk result (λ value. (state : ModelState) → StandsForState self.now state
             → get_answer state state.last family.now key.now ≡ found value) }
@@ -153,7 +152,7 @@ impl MarkStore {
         }
     }
 
-    // Makes a place for the mark of each key that the operations name. Nothing else changes, with every answer.
+    // Makes a slot for the mark of each key that the operations name. Nothing else changes, with every answer.
     fn make_room(&mut self, ops: &[Op]) -> Result<(), AllocError>
         ensures unchanged { IsSameStore self.old self.new }
         ensures room { OnOk result (Each (λ op. HasRoom self.new.newest (op_key op)) ops.now) }

@@ -11,12 +11,12 @@ use Rattle.st_wal.specs.declared.logged.Logged.{Logged}
 use Rattle.log_recover.specs.declared.fault.OpenFault.{OpenFault}
 use Rattle.log_recover.specs.declared.fault.OpenFault.TheVariants.{Damaged, DiskFault, OutOfMemory}
 
--- a file that is damaged, and the place from which on it is
+-- a file that is damaged, and the offset from which on it is
 pub record Damage : Type 0 where
   pub file : ℕ
   pub at : ℕ
 
--- the place of the record of the first operation that isn't one of `default`, or whose number isn't above the one before
+-- the offset of the record of the first operation that isn't one of `default`, or whose number doesn't rise
 abbrev pub first_log_fault : ℕ → List Logged → Option ℕ
 first_log_fault last [] = None
 first_log_fault last (op ∷ ops) = if (op.family == 0) && nat_lt last op.number then first_log_fault op.number ops else Some op.at
@@ -47,7 +47,7 @@ files_open (Some mark) log = log_opens (read_as_log log)
 abbrev pub opens : Image → Result (List Logged) Damage
 opens image = files_open (image 1) (image 3)
 
--- damage is told where the image has it, with its place
+-- damage is told where the image has it, with its offset
 abbrev pub IsDamageOf : Result (List Logged) Damage → OpenFault → Type 0
 IsDamageOf opened (Damaged file at) = opened ≡ Err (record { file = file; at = at })
 IsDamageOf opened DiskFault = Unit {0}

@@ -1,4 +1,3 @@
-// Why a store isn't opened.
 ghost use Rattle.std.specs.Prelude.{◌≡◌};
 
 use st_device::{Failed, ReadFault};
@@ -7,8 +6,8 @@ use st_gate::ReplayFault;
 /// Why a store isn't opened.
 #[derive(Drop)]
 pub enum OpenFault {
-    /// The disk has a store that is damaged: a file, and the place of its first damage in bytes. In the log it is the
-    /// place of a record's gate, or 0 where the file isn't there or isn't a log.
+    /// The disk has a store that is damaged: a file, and the offset of its first damage in bytes. In the log it is the
+    /// offset of a record's gate, or 0 where the file isn't there or isn't a log.
     Damaged { file: u64, at: u64 },
     /// The disk has failed.
     DiskFault,

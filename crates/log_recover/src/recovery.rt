@@ -14,7 +14,7 @@ use st_device::Disk;
 use st_wal::{Logged, Wal};
 use std::alloc::Global;
 
-// The place of the record of the first operation that isn't one of `default`, or whose number isn't above the one before.
+// The offset of the record of the first operation that isn't one of `default`, or whose number doesn't rise.
 fn first_fault(operations: &[Logged]) -> Option<u64>
     ensures { result ≡ first_log_fault 0 operations.now }
 {
@@ -49,7 +49,7 @@ fn read_log<D: Disk>(alloc: Global, disk: &mut D) -> Result<(List<Logged>, Wal),
 /// Opens the store of a disk, or makes a new one where its mark isn't there: its operations, in order, and its log.
 ///
 /// Every file that is there is synced first. `Damaged` comes exactly where the disk reads a store that is damaged, with
-/// the place of its damage; a fault of the disk or want of memory may come in its place.
+/// the offset of its damage; a disk fault or `OutOfMemory` may come instead.
 pub fn recover<D: Disk>(alloc: Global, disk: &mut D) -> Result<(List<Logged>, Wal), OpenFault>
     // What is opened is what the disk reads.
     ensures ok { IsHonest (D.tells disk.old) → IfOk result (λ read. opens (D.tells disk.old).reads ≡ Ok read.0) }

@@ -63,7 +63,7 @@ fn names(rt: HostRuntime) {
     }
 }
 
-// Puts three bytes at the end.
+// Appends three bytes.
 fn grow(bytes: &mut Bytes) -> Result<(), AllocError> {
     bytes.push(b'c')?;
     bytes.reserve(2)?;

@@ -97,7 +97,7 @@ fn texts_are_faulty(rt: HostRuntime) {
     }
 }
 
-// Puts the line `put K V` at the end, K being so many letters k and V so many letters v.
+// Appends the line `put K V`, K being so many letters k and V so many letters v.
 fn put_long_line(text: &mut Bytes, key: usize, value: usize) -> Result<(), AllocError> {
     text.extend_from_slice(b"put ")?;
     for _ in 0..key {

@@ -7,7 +7,7 @@ use st_model::{Command, Op, Refusal, Reply};
 use std::alloc::{AllocError, Global};
 use std::test::Fail;
 
-// How many commands the text has, or its first faulty line; 0 for want of memory.
+// How many commands the text has, or its first faulty line; 0 where memory runs out.
 fn count(alloc: Global, text: &str) -> Result<usize, u32> {
     if text.len() > 1000 {
         return Err(0);
@@ -143,7 +143,7 @@ fn reply(alloc: Global, shown: Shown) -> Result<Reply, MakeFault> {
     }
 }
 
-// Whether the place and the reply print as the line, also behind other bytes.
+// Whether the place and the reply print as the line, also after other bytes.
 fn is_printed(alloc: Global, place: u64, reply: &Reply, line: &str) -> Result<bool, AllocError> {
     let printed = print_reply(alloc, place, reply)?;
     let mut out = Bytes::from_slice(alloc, b">")?;

@@ -4,7 +4,7 @@
 //! Each meets the contract of its trait, and a call answers `Failed` only where its count rose in the call, or stands at
 //! its end. A layer above is generic over the traits and never names these; only a program does.
 //!
-//! Of `FolderDisk`'s calls `files` alone takes memory, so want of memory is never a fault of a real disk.
+//! Of `FolderDisk`'s calls `files` alone takes memory, so running out of memory is never a fault of a real disk.
 //!
 //! They tell nothing of bytes, so no clause refuses a body of theirs that finds, reads, keeps or writes nothing; a test
 //! calls each.

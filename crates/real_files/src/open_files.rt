@@ -1,4 +1,3 @@
-// Files that are kept open.
 ghost use Rattle.std.specs.Prelude.{◌<◌, IfSome};
 
 use std::fs::File;
@@ -32,7 +31,7 @@ impl OpenFiles {
         }
     }
 
-    // The place of a file.
+    // The slot of a file.
     fn slot_of(&self, file: u64) -> Option<usize>
         ensures { IfSome result (λ slot. slot < 16) }
     {
@@ -54,7 +53,7 @@ impl OpenFiles {
         None
     }
 
-    /// Keeps a file open, in place of the one that was opened first, where all places are taken.
+    /// Keeps a file open, instead of the one that was opened first where all slots are taken.
     pub fn keep(&mut self, file: u64, handle: File)
         ensures { IsOpenBy self.new file handle }
     {

@@ -24,7 +24,7 @@ pub record Cell : Type 0 where
 
 -- ---- one entry
 
--- the three lengths that an entry begins with, and the place behind them
+-- the three lengths that an entry begins with, and the offset after them
 pub record Head : Type 0 where
   pub shared : ℕ
   pub unshared : ℕ
@@ -42,7 +42,7 @@ abbrev pub fits : List ℕ → List ℕ → Head → Bool
 fits area before head =
     nat_le head.shared (length before) && (nat_le (head.shared + head.unshared) INTERNAL_KEY_BYTES && nat_le (head.behind + head.unshared + head.value) (length area))
 
--- what an entry with this head is, and the place behind it
+-- what an entry with this head is, and the offset after it
 abbrev pub laid : List ℕ → List ℕ → ℕ → Head → Cell × ℕ
 laid area before at head = (
   record {
@@ -54,7 +54,7 @@ laid area before at head = (
   head.behind + head.unshared + head.value,
 )
 
--- the entry at a place behind a key, and the place behind it
+-- the entry at an offset after a key, and the offset after it
 unfoldable pub cell_at : List ℕ → List ℕ → ℕ → Option (Cell × ℕ)
 cell_at area before at = option_and_then (λ head. if fits area before head then Some (laid area before at head) else None) (head_at area at)
 
@@ -90,7 +90,7 @@ abbrev pub found_then : Result (Cell × ℕ) BlockFault → (Cell × ℕ → Res
 found_then (Ok found) behind = with_cell found.0 (behind found)
 found_then (Err fault) behind = Err fault
 
--- the entries from a place on, or the first fault; there are at most so many
+-- the entries from an offset on, or the first fault; there are at most so many
 unfoldable pub cells_from : ℕ → BlockKind → List ℕ → List ℕ → ℕ → Result (List Cell) BlockFault
 cells_from zero kind area before at = Ok []
 cells_from (suc most) kind area before at =
@@ -101,12 +101,12 @@ entries_of kind area = cells_from (length area) kind area [] 0
 
 -- ---- restarts
 
--- so many fixed32 from a place on
+-- so many fixed32 from an offset on
 abbrev pub offsets_at : List ℕ → ℕ → ℕ → List ℕ
 offsets_at bytes at zero = []
 offsets_at bytes at (suc count) = from_le_bytes w32 (drop at bytes) ∷ offsets_at bytes (at + 4) count
 
--- where the entries end, and the restart offsets behind them
+-- where the entries end, and the restart offsets after them
 pub record Tail : Type 0 where
   pub end : ℕ
   pub restarts : List ℕ
@@ -134,7 +134,7 @@ tail_end (Some tail) = tail.end
 abbrev pub entries_end : List ℕ → ℕ
 entries_end bytes = tail_end (tail_of bytes)
 
--- the restarts behind them
+-- the restarts after them
 abbrev pub tail_restarts : Option Tail → List ℕ
 tail_restarts None = []
 tail_restarts (Some tail) = tail.restarts

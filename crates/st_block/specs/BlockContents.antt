@@ -1,4 +1,4 @@
--- An opened block, and the places in it at which an entry begins, or where all end.
+-- An opened block, and the offsets in it at which an entry begins, or all end.
 use Rattle.std.specs.Prelude.{◌≡◌, ℕ, ◌+◌, ◌<◌, ◌≤◌, Bool, ◌==◌, List, [], ◌∷◌, length, take, slice_range, Ok, if◌then◌else◌}
 use Rattle.std.specs.Result.{result_unwrap_or}
 use Rattle.std.specs.Ordering.{is_lt}
@@ -9,7 +9,7 @@ use Rattle.st_block.specs.InternalKey.{internal_cmp, is_key_before}
 use Rattle.st_block.specs.declared.kind.BlockKind.{BlockKind}
 use Rattle.st_block.specs.declared.open.Layout.{Layout}
 
--- what a block has: its kind, where its entries end, the entries, and the restarts behind them
+-- what a block has: its kind, where its entries end, the entries, and the restarts after them
 pub record BlockContents : Type 0 where
   pub kind : BlockKind
   pub end : ℕ
@@ -24,7 +24,7 @@ pub record Opens (kind : BlockKind) (text : List ℕ) (block : BlockContents) : 
   pub restarts : block.restarts ≡ restarts_of text
   pub within : block.end ≤ length text
 
--- the entries from the one at this place on
+-- the entries from the one at this offset on
 abbrev pub cells_at : ℕ → List Cell → List Cell
 cells_at at [] = []
 cells_at at (cell ∷ cells) = if cell.at == at then cell ∷ cells else cells_at at cells
@@ -39,12 +39,12 @@ abbrev pub Primes : List ℕ → List Cell → Type 0
 Primes key [] = Unit {0}
 Primes key (cell ∷ cells) = (cell.shared ≤ length key) × (take cell.shared key ≡ take cell.shared cell.key)
 
--- the place is that of an entry, or where all end, and the key allows it to be read
+-- the offset is that of an entry, or of the end of all, and the key allows it to be read
 pub record IsReadableAt (block : BlockContents) (at : ℕ) (key : List ℕ) : Type 0 where
   pub offset : offset_of block.end (cells_at at block.cells) ≡ at
   pub primes : Primes key (cells_at at block.cells)
 
--- the entry at a place, with its key, its value and the place behind it, at which a reader then stands
+-- the entry at an offset, with its key, its value and the offset after it, at which a reader then stands
 pub record TakesCell (block : BlockContents) (at : ℕ) (key value : List ℕ) (next : ℕ) (cell : Cell) : Type 0 where
   pub first : cells_at at block.cells ≡ cell ∷ cells_at next block.cells
   pub key_is : cell.key ≡ key
@@ -52,13 +52,13 @@ pub record TakesCell (block : BlockContents) (at : ℕ) (key value : List ℕ) (
   pub shared : cell.shared ≤ length cell.key
   pub behind : IsReadableAt block next key
 
--- an entry that was read ends behind its place, where its value ends, and with all entries or before
+-- an entry that was read ends after its offset, where its value ends, and with all entries or before
 pub record Advances (block : BlockContents) (at : ℕ) (value : List ℕ) (next : ℕ) : Type 0 where
   pub behind : at < next
   pub value_before : length value ≤ next
   pub within : next ≤ block.end
 
--- the entries from the first one on that doesn't come before the place of a key and a number
+-- the entries from the first one on that doesn't come before a key and a number
 abbrev pub cells_from_place : List ℕ → ℕ → List Cell → List Cell
 cells_from_place key number [] = []
 cells_from_place key number (cell ∷ cells) = if is_key_before key number cell.key then cells_from_place key number cells else cell ∷ cells
@@ -81,7 +81,7 @@ abbrev pub block_contents_in : BlockKind → List ℕ → Layout → BlockConten
 block_contents_in kind text layout =
     record { kind = kind; end = layout.end; cells = cells_in kind (take layout.end text); restarts = offsets_at text layout.end layout.restarts }
 
--- the bytes from a place on lie as the layout says
+-- the bytes from an offset on lie as the layout says
 pub record Keeps (bytes : List ℕ) (from size : ℕ) (kind : BlockKind) (layout : Layout) : Type 0 where
   pub inside : from + size ≤ length bytes
   pub lies : IsLayout kind (slice_range bytes from (from + size)) layout (cells_in kind (take layout.end (slice_range bytes from (from + size))))

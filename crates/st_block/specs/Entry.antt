@@ -23,24 +23,24 @@ pub record AreLengths (head : Lengths) : Type 0 where
   pub unshared : head.unshared < 2 ^ 32
   pub value : head.value < 2 ^ 32
 
--- a head that was read at a place, in bytes of this length
+-- a head that was read at an offset, in bytes of this length
 pub record IsHead (at length : ℕ) (head : Lengths) : Type 0 where
   pub lengths : AreLengths head
   pub behind : at < head.behind
   pub within : head.behind ≤ length
 
--- a head of an entry that fits behind a key
+-- a head of an entry that fits after a key
 pub record IsFitting (area before : List ℕ) (at : ℕ) (head : Lengths) : Type 0 where
   pub shared : head.shared ≤ length before
   pub room : head.shared + head.unshared ≤ INTERNAL_KEY_BYTES
   pub behind : at < head.behind
   pub within : head.behind + head.unshared + head.value ≤ length area
 
--- an entry that was read at a place, with its key
+-- an entry that was read at an offset, with its key
 abbrev pub cell_of : List ℕ → ℕ → List ℕ → ReadCell → Cell
 cell_of area at key read = record { at = at; shared = read.shared; key = key; value = slice_range area read.value read.next }
 
--- its value lies behind the place and within bytes of this length
+-- its value lies after the offset and within bytes of this length
 pub record IsRead (length at : ℕ) (read : ReadCell) : Type 0 where
   pub behind : at < read.next
   pub value : read.value ≤ read.next
@@ -51,7 +51,7 @@ abbrev pub pass : List ℕ → Cell → List ℕ
 pass [] cell = []
 pass (offset ∷ offsets) cell = if (cell.at == offset) && (cell.shared == 0) then offsets else offset ∷ offsets
 
--- the restarts from the place on
+-- the restarts from this index on
 abbrev pub restarts_left : List ℕ → Tail → ℕ → List ℕ
 restarts_left text tail met = offsets_at text (tail.end + 4 * met) (tail.count - met)
 
@@ -60,7 +60,7 @@ abbrev pub with_front : List Cell → Result (List Cell) BlockFault → Result (
 with_front front (Ok cells) = Ok (front ++ cells)
 with_front front (Err fault) = Err fault
 
--- some entries were read and tested up to a place, and the scratch has the key of the last
+-- some entries were read and tested up to an offset, and the scratch has the key of the last
 pub record AreRead (kind : BlockKind) (text area : List ℕ) (tail : Tail) (before : List ℕ) (at entries met : ℕ) (front : List Cell) : Type 0 where
   pub so_far : entries_of kind area ≡ with_front front (cells_from (length area - entries) kind area before at)
   pub count : length front ≡ entries

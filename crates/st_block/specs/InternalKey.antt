@@ -1,4 +1,4 @@
--- Internal keys: a key, and behind it a fixed64 that is its sequence number times 256 plus its kind. The kind is 0 for a
+-- Internal keys: a key, followed by a fixed64 that is its sequence number times 256 plus its kind. The kind is 0 for a
 -- tombstone and 1 for a value.
 use Rattle.std.specs.Prelude.{ℕ, ◌+◌, ◌-◌, ◌*◌, ◌/◌, ◌%◌, Bool, ◌&&◌, ◌||◌, ◌==◌, List, [], ◌++◌, length, take, drop, if◌then◌else◌}
 use Rattle.std.specs.Int.{w64, from_le_bytes}
@@ -31,7 +31,7 @@ kind_of internal = packed internal % KINDS
 abbrev pub internal_cmp : List ℕ → List ℕ → Ordering
 internal_cmp one other = place_cmp (user_key one) (packed one) (user_key other) (packed other)
 
--- whether the internal key comes before the place of a key and a sequence number
+-- whether the internal key comes before a key and a sequence number
 abbrev pub is_key_before : List ℕ → ℕ → List ℕ → Bool
 is_key_before key number internal = is_lt (place_cmp (user_key internal) (number_of internal) key number)
 

@@ -1,4 +1,4 @@
--- The restart from which a place is looked for, and the work of looking for it.
+-- The restart from which a key is looked for, and the work of looking for it.
 use Rattle.std.specs.Prelude.{◌≡◌, ℕ, suc, ◌+◌, ◌-◌, ◌*◌, ◌^◌, ◌≤◌, ◌<◌, ◌⊎◌, List, [], ◌∷◌, drop, length, max, take, false, IsTrue}
 use Rattle.std.specs.Int.{w32, from_le_bytes}
 use Rattle.st_block.specs.Block.{Cell, is_restart}
@@ -19,19 +19,19 @@ pub record IsShort (block : BlockContents) (reads : ℕ) : Type 0 where
   pub halved : 2 ^ halvings ≤ 2 * length block.restarts + 1
   pub walked : reads ≤ halvings + widest block.cells block.restarts + 1
 
--- it is the first one, or its entry comes before the place of the key and the number
+-- it is the first one, or its entry comes before the key and the number
 pub record IsStart (kind : BlockKind) (text : List ℕ) (layout : Layout) (key : List ℕ) (number at : ℕ) : Type 0 where
   pub restart : IsTrue (is_restart (cells_in kind (take layout.end text)) at)
   pub before : (at ≡ 0) ⊎ ((cell : Cell) (rest : List Cell) → cells_at at (cells_in kind (take layout.end text)) ≡ cell ∷ rest → IsTrue (is_key_before key number cell.key))
 
--- it is the last one, or the entry of the next one doesn't come before that place
+-- it is the last one, or the entry of the next one doesn't come before them
 pub record IsLast (kind : BlockKind) (text : List ℕ) (layout : Layout) (key : List ℕ) (number at : ℕ) : Type 0 where
   pub low : ℕ
   pub offset : at ≡ from_le_bytes w32 (drop (layout.end + 4 * low) text)
   pub within : low < layout.restarts
   pub after : (suc low ≡ layout.restarts) ⊎ ((cell : Cell) (rest : List Cell) → cells_at (from_le_bytes w32 (drop (layout.end + 4 * suc low) text)) (cells_in kind (take layout.end text)) ≡ cell ∷ rest → is_key_before key number cell.key ≡ false)
 
--- the entries from a restart to a place were read, once that restart was found
+-- the entries from a restart to an offset were read, once that restart was found
 pub record IsWalked (kind : BlockKind) (text : List ℕ) (layout : Layout) (key : List ℕ) (number before at steps : ℕ) : Type 0 where
   pub from : ℕ
   pub last : IsLast kind text layout key number from

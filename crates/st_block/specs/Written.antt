@@ -15,12 +15,12 @@ entry_bytes shared key value = varint shared ++ varint (length key - shared) ++ 
 abbrev pub shared_of : ℕ → ℕ → List ℕ → List ℕ → ℕ
 shared_of interval count before key = if count % interval == 0 then 0 else common_prefix_len nat_eq before key
 
--- the bytes of entries behind `count` others, the last of which has the key `before`
+-- the bytes of entries after `count` others, the last of which has the key `before`
 abbrev pub entries_bytes : ℕ → ℕ → List ℕ → List (List ℕ × List ℕ) → List ℕ
 entries_bytes interval count before [] = []
 entries_bytes interval count before (pair ∷ pairs) = entry_bytes (shared_of interval count before pair.0) pair.0 pair.1 ++ entries_bytes interval (count + 1) pair.0 pairs
 
--- where restarts stand among these, the first of which begins at a place
+-- where restarts stand among these, the first of which begins at an offset
 abbrev pub restarts_of : ℕ → ℕ → ℕ → List ℕ → List (List ℕ × List ℕ) → List ℕ
 restarts_of interval count at before [] = []
 restarts_of interval count at before (pair ∷ pairs) =
@@ -81,7 +81,7 @@ pub record IsWriting (writing : Writing) : Type 0 where
   pub count : writing.count ≤ length writing.entries
   pub restarts : length writing.restarts ≤ length writing.entries
 
--- bytes were put behind the old ones
+-- bytes were appended to the old ones
 abbrev pub Appends : List ℕ → List ℕ → Type 0
 Appends old new = (more : List ℕ) × (new ≡ old ++ more)
 
@@ -93,7 +93,7 @@ pub record FitsBlock (kind : BlockKind) (pair : List ℕ × List ℕ) : Type 0 w
   pub value : length pair.1 ≤ VALUE_BYTES
   pub long : IsTrue (is_long_enough kind pair.0)
 
--- keys behind a key, in the order of the kind of block
+-- keys after a key, in the order of the kind of block
 abbrev pub GoOn : BlockKind → List ℕ → List (List ℕ × List ℕ) → Type 0
 GoOn kind before [] = Unit {0}
 GoOn kind before (pair ∷ pairs) = IsTrue (is_after kind before pair.0) × FitsBlock kind pair × GoOn kind pair.0 pairs
@@ -103,7 +103,7 @@ abbrev pub MayWrite : BlockKind → List (List ℕ × List ℕ) → Type 0
 MayWrite kind [] = ⊥
 MayWrite kind (pair ∷ pairs) = FitsBlock kind pair × GoOn kind pair.0 pairs
 
--- the entry that a pair is written as, and those of pairs from a place on
+-- the entry that a pair is written as, and those of pairs from an offset on
 abbrev pub cells_of : ℕ → ℕ → ℕ → List ℕ → List (List ℕ × List ℕ) → List Cell
 cells_of interval count at before [] = []
 cells_of interval count at before (pair ∷ pairs) =

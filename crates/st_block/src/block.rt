@@ -13,12 +13,12 @@ use std::sync::ledger::{Blank, Ledger};
 pub struct BlockEntry<'a> {
     /// Its value.
     pub value: &'a [u8],
-    /// The place behind it.
+    /// The offset after it.
     pub next: usize,
 }
 
 /// A block that was tested whole when it was opened, and is read where it lies in shared bytes. Contracts see its kind, its
-/// entries, each with its place, and the place where they end. A place is an offset in the block, in bytes.
+/// entries, each with its offset, and the offset where they end. An offset is in bytes from the block's beginning.
 #[derive(Drop)]
 pub struct Block {
     bytes: Arc<Bytes>,
@@ -44,9 +44,9 @@ impl Block {
     ghost use Rattle.st_block.specs.BlockContents.{Advances, Opens, IsReadableAt, TakesCell, cells_at, internal_keys_rise, lower_offset};
     ghost use Rattle.st_block.specs.Search.{IsShort};
 
-    /// The block of this kind in the `size` bytes from the place `from` on, or its first fault: first of the restarts at its
-    /// end, then of the entries in order, then of a restart that is no entry that shares nothing. It takes no memory, and its
-    /// work is linear in the size.
+    /// The block of this kind in the `size` bytes from the offset `from` on, or its first fault: first of the restarts
+    /// at its end, then of the entries in order, then of a restart that is no entry that shares nothing. It takes no
+    /// memory, and its work is linear in the size.
     pub fn open(
         bytes: Arc<Bytes>,
         from: usize,
@@ -89,7 +89,7 @@ impl Block {
         self.kind
     }
 
-    /// The place of the first entry, at which a reader stands with any key in its scratch.
+    /// The offset of the first entry, at which a reader stands with any key in its scratch.
     pub fn start(&self) -> usize
         ensures value { cells_at result self.now.cells ≡ self.now.cells }
         ensures stands { (key : List ℕ) → IsReadableAt self.now result key }
@@ -98,8 +98,8 @@ impl Block {
         0
     }
 
-    /// The entry at the place; its key is put into the scratch, and a reader then stands at the place behind it. None exactly
-    /// at the end. It reads that one entry.
+    /// The entry at the offset; its key is put into the scratch, and a reader then stands at the offset after it. None
+    /// exactly at the end. It reads that one entry.
     pub fn read<'a>(&'a self, at: usize, scratch: &mut Scratch) -> Option<BlockEntry<'a>>
         requires { IsReadableAt self.now at scratch.old }
         ensures found { IfSome result
@@ -116,8 +116,8 @@ impl Block {
         })
     }
 
-    /// The place of the first entry that doesn't come before the key and the sequence number, or where all end; a reader then
-    /// stands there. The keys are to rise as internal keys. `lower_counted` says how few entries it reads.
+    /// The offset of the first entry that doesn't come before the key and the sequence number, or where all end; a
+    /// reader then stands there. The keys are to rise as internal keys. `lower_counted` says how few entries it reads.
     pub fn lower(&self, key: &[u8], number: u64, scratch: &mut Scratch) -> usize
         requires { IsTrue (internal_keys_rise self.now.cells) }
         ensures value { result ≡ lower_offset self.now key.now number }

@@ -30,7 +30,7 @@ pub(crate) struct Head {
     pub(crate) behind: usize,
 }
 
-// The head of the entry at the place, or none where it doesn't parse.
+// The head of the entry at the offset, or none where it doesn't parse.
 #[tactic(auto, unfolding(crate::specs::Block::head_at))]
 pub(crate) fn head_at(area: &[u8], at: usize) -> Option<Head>
     ensures value { option_map head_of result ≡ head_at area.now at }
@@ -47,7 +47,7 @@ pub(crate) fn head_at(area: &[u8], at: usize) -> Option<Head>
     })
 }
 
-// Whether an entry with this head fits behind a key of so many bytes, and among the entries.
+// Whether an entry with this head fits after a key of so many bytes, and among the entries.
 pub(crate) fn fits(area: &[u8], before: &[u8], head: Head) -> bool
     requires lengths { AreLengths head }
     requires within { head.behind ≤ length area.now }
@@ -65,11 +65,11 @@ pub(crate) struct ReadCell {
     pub(crate) shared: usize,
     /// Where its value begins.
     pub(crate) value: usize,
-    /// The place behind it.
+    /// The offset after it.
     pub(crate) next: usize,
 }
 
-// The head of the entry at the place behind a key, or none where no entry stands there.
+// The head of the entry at the offset, after a key, or none where no entry stands there.
 #[tactic(auto, unfolding(crate::specs::Block::cell_at))]
 pub(crate) fn head_behind(area: &[u8], before: &[u8], at: usize) -> Option<Head>
     ensures found { IfSome result
@@ -85,7 +85,7 @@ pub(crate) fn head_behind(area: &[u8], before: &[u8], at: usize) -> Option<Head>
     }
 }
 
-// The entry at the place, behind the key in the scratch; its key is put into the scratch. None, and the scratch is left
+// The entry at the offset, after the key in the scratch; its key is put into the scratch. None, and the scratch is left
 // as it was, where no entry stands there.
 pub(crate) fn read_at(area: &[u8], at: usize, scratch: &mut Scratch) -> Option<ReadCell>
     ensures found { IfSome result
@@ -103,7 +103,7 @@ pub(crate) fn read_at(area: &[u8], at: usize, scratch: &mut Scratch) -> Option<R
     })
 }
 
-// Puts three numbers at the end that have one byte each.
+// Appends three numbers that have one byte each.
 fn put_short_lengths(
     out: &mut Bytes,
     shared: usize,
@@ -119,7 +119,7 @@ fn put_short_lengths(
     out.extend_from_slice(&[shared as u8, unshared as u8, value as u8])
 }
 
-// Puts the lengths of an entry at the end, at once where each has one byte; where memory runs out, some of them may stand
+// Appends the lengths of an entry, at once where each has one byte; where memory runs out, some of them may stand
 // there.
 fn put_lengths(
     out: &mut Bytes,
@@ -138,7 +138,7 @@ fn put_lengths(
     push_varint(out, value as u64)
 }
 
-// Puts an entry at the end; where memory runs out, some of it may stand there.
+// Appends an entry; where memory runs out, some of it may stand there.
 pub(crate) fn put_entry(
     out: &mut Bytes,
     shared: usize,
@@ -154,7 +154,7 @@ pub(crate) fn put_entry(
     out.extend_from_slice(value)
 }
 
-// Puts an entry at the end, or leaves the bytes as they were.
+// Appends an entry, or leaves the bytes as they were.
 pub(crate) fn push_entry(
     out: &mut Bytes,
     shared: usize,

@@ -73,7 +73,7 @@ pub fn internal_cmp(one: &[u8], other: &[u8]) -> Ordering
         .then(packed(other).cmp(&packed(one)))
 }
 
-// Whether the internal key comes before the place of the key and the number.
+// Whether the internal key comes before the key and the number.
 pub(crate) fn is_key_before(internal: &[u8], key: &[u8], number: u64) -> bool
     ensures { result ≡ is_key_before key.now number internal.now }
 {

@@ -10,7 +10,7 @@ use crate::kind::BlockKind;
 use st_base::INTERNAL_KEY_BYTES;
 use std::cmp::Ordering;
 
-// The byte at the place of a key that shares its front with the key before: 0 past its end.
+// The byte at the index of a key that shares its front with the key before: 0 past its end.
 fn byte_at(before: &[u8], shared: usize, others: &[u8], index: usize) -> u8
     requires { shared ≤ length before.now }
     ensures { result ≡ slice_index (take shared before.now ++ others.now) index }
@@ -68,7 +68,7 @@ pub(crate) fn word_at(before: &[u8], shared: usize, others: &[u8], offset: usize
     ])
 }
 
-// Whether the new internal key comes behind the key before.
+// Whether the new internal key comes after the key before.
 fn is_internal_after(before: &[u8], shared: usize, others: &[u8]) -> bool
     requires shared { shared ≤ length before.now }
     requires old { PACKED_BYTES ≤ length before.now }
@@ -100,7 +100,7 @@ pub(crate) fn is_long(kind: BlockKind, bytes: usize) -> bool
     }
 }
 
-/// Whether the key that shares its front with the key before comes behind it, in its kind of block.
+/// Whether the key that shares its front with the key before comes after it, in its kind of block.
 pub(crate) fn is_after(kind: BlockKind, before: &[u8], shared: usize, others: &[u8]) -> bool
     requires shared { shared ≤ length before.now }
     requires old { IsTrue (is_long_enough kind before.now) }

@@ -7,7 +7,7 @@ ghost use Rattle.st_block.specs.declared.kind.BlockKind.TheVariants.{Index};
 
 use st_code::numbers_read_again;
 
-/// Who adds an entry to a writer that holds some adds it behind them.
+/// An entry that is added to a writer comes after those that it holds.
 pub fn writer_holds_what_is_added()
     ensures { (writing : Writing) (pairs : List (List ℕ × List ℕ)) (key value : List ℕ) → HoldsPairs writing pairs
         → HoldsPairs (pair_added writing key value) (pairs ++ (key, value) ∷ []) }

@@ -7,9 +7,9 @@
 //! ```
 //!
 //! The layer above may rely on this: `Block::open` accepts exactly the blocks of this layout and answers the first fault of
-//! all others; it takes no memory and reads a block where it lies in shared bytes. `Block::lower` is the first place at or
-//! after a key and a sequence number. `BlockWriter::finish` gives exactly the written block, and opening it gives the
-//! entries that were added.
+//! all others; it takes no memory and reads a block where it lies in shared bytes. `Block::lower` is the first offset
+//! at or after a key and a sequence number. `BlockWriter::finish` gives exactly the written block, and opening it gives
+//! the entries that were added.
 #![tactic(auto)]
 
 mod block;

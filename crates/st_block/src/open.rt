@@ -25,7 +25,7 @@ pub(crate) struct Layout {
     pub(crate) entries: usize,
 }
 
-// The entry at the place behind the key in the scratch, tested by its kind of block; its key is put into the scratch.
+// The entry at the offset, after the key in the scratch, tested by its kind of block; its key is put into the scratch.
 fn next_cell(
     area: &[u8],
     kind: BlockKind,
@@ -57,7 +57,7 @@ fn next_cell(
     })
 }
 
-// How many restarts were met once the entry at the place, which shares so many bytes, has gone by.
+// How many restarts were met once the entry at the offset, which shares so many bytes, has gone by.
 fn met_by(text: &[u8], tail: Tail, met: usize, at: usize, shared: usize) -> usize
     requires room { tail.end + 4 * tail.count ≤ length text.now }
     requires met { met ≤ tail.count }

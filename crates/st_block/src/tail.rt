@@ -14,14 +14,14 @@ use st_base::Bytes;
 use st_code::{fixed32_in, push_fixed32};
 use std::alloc::AllocError;
 
-/// Where the entries of a block end, and how many restart offsets stand behind them.
+/// Where the entries of a block end, and how many restart offsets follow them.
 #[derive(Clone, Copy)]
 pub(crate) struct Tail {
     pub(crate) end: usize,
     pub(crate) count: usize,
 }
 
-// Whether the offsets at the place begin with 0 and rise.
+// Whether the offsets at the offset begin with 0 and rise.
 fn are_restarts(text: &[u8], at: usize, count: usize) -> bool
     requires { at + 4 * count ≤ length text.now }
     ensures { result ≡ are_restarts (offsets_at text.now at count) }
@@ -67,7 +67,7 @@ pub(crate) fn tail_of(text: &[u8]) -> Option<Tail>
     Some(Tail { end, count })
 }
 
-// Puts each offset at the end, in four bytes.
+// Appends each offset, in four bytes.
 fn push_offsets(out: &mut Bytes, offsets: &[u32]) -> Result<(), AllocError>
     ensures { OnOk result (out.new ≡ out.old ++ flat_map fixed32 offsets.now) }
 {
@@ -77,7 +77,7 @@ fn push_offsets(out: &mut Bytes, offsets: &[u32]) -> Result<(), AllocError>
     Ok(())
 }
 
-// Puts the restart offsets and their count at the end; a block without entries has the one restart 0.
+// Appends the restart offsets and their count; a block without entries has the one restart 0.
 pub(crate) fn put_tail(out: &mut Bytes, restarts: &[u32]) -> Result<(), AllocError>
     requires { length restarts.now < 2 ^ 32 }
     ensures { OnOk result (out.new ≡ with_tail out.old (or_zero restarts.now)) }

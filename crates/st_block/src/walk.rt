@@ -12,7 +12,7 @@ use st_base::{Scratch, Steps};
 use st_code::fixed32_in;
 use std::sync::ledger::Ledger;
 
-/// The entry at the place, or none at the end. Its key is put into the scratch.
+/// The entry at the offset, or none at the end. Its key is put into the scratch.
 pub(crate) fn read_in(
     text: &[u8],
     kind: BlockKind,
@@ -36,7 +36,7 @@ pub(crate) fn read_in(
     read_at(&text[..layout.end], at, scratch)
 }
 
-// The key of the entry at the place, where it shares nothing.
+// The key of the entry at the offset, where it shares nothing.
 fn restart_key(area: &[u8], at: usize) -> &[u8]
     ensures { (before : List ℕ) (cell : Cell) (next : ℕ) → cell_at area.now before at ≡ Some (cell, next)
         → cell.shared ≡ 0 → result.now ≡ cell.key }
@@ -51,7 +51,7 @@ fn restart_key(area: &[u8], at: usize) -> &[u8]
     &area[head.behind..end]
 }
 
-// The last restart whose entry comes before the place of the key and the number, or the first restart. Each entry that
+// The last restart whose entry comes before the key and the number, or the first restart. Each entry that
 // is read is a step.
 fn start_of<L: Ledger>(
     text: &[u8],
@@ -84,7 +84,7 @@ fn start_of<L: Ledger>(
     fixed32_in(text, layout.end + 4 * low) as usize
 }
 
-/// The place of the first entry that doesn't come before the key and the number, or the end. Its key is put into the
+/// The offset of the first entry that doesn't come before the key and the number, or the end. Its key is put into the
 /// scratch. Each entry that is read is a step.
 pub(crate) fn lower_in<L: Ledger>(
     text: &[u8],

@@ -49,7 +49,7 @@ fn shared_with(before: &[u8], key: &[u8], count: usize, interval: usize) -> usiz
     }
 }
 
-// Puts a restart at the end where one is due.
+// Appends a restart where one is due.
 fn push_restart(
     restarts: &mut List<u32>,
     at: usize,
@@ -105,7 +105,7 @@ impl BlockWriter {
         })
     }
 
-    /// Puts an entry at the end; an error leaves the writer as it was. What `finish` then gives is to have fewer than 2^32
+    /// Appends an entry; an error leaves the writer as it was. What `finish` then gives is to have fewer than 2^32
     /// bytes.
     pub fn add(&mut self, key: &[u8], value: &[u8]) -> Result<(), AllocError>
         requires key { length key.now ≤ INTERNAL_KEY_BYTES }

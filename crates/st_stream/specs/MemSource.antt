@@ -8,7 +8,7 @@ use Rattle.st_stream.specs.declared.mem_source.MemSource.{MemSource}
 abbrev pub source_told_of : List ℕ → ℕ → SourceTold
 source_told_of left faults = record { known = true; left = left; faults = faults }
 
--- the bytes behind those that were given are left
+-- the bytes after those that were given are left
 abbrev pub mem_source_told : MemSource → SourceTold
 mem_source_told source = source_told_of (drop source.given source.bytes) source.calls.faults
 

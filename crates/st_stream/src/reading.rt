@@ -96,7 +96,6 @@ fn read_pieces<I: Inputs>(
     Ok(())
 }
 
-// The lesser of the two.
 fn least(came: usize, left: u64) -> usize
     ensures { result ≡ min came left }
 {

@@ -21,8 +21,8 @@ pub enum SourceRead {
 /// more than `limit` bytes no further piece is read. Time and memory are linear in the bytes that come, and it ends for
 /// every source.
 ///
-/// `Failed` comes only where the source's count of faults rose in this call, or stands at its end. Then, and for want of
-/// memory, the bytes that came are lost.
+/// `Failed` comes only where the source's count of faults rose in this call, or stands at its end. Then, and where
+/// memory runs out, the bytes that came are lost.
 pub fn read_source<S: Source>(
     alloc: Global,
     source: &mut S,

@@ -31,8 +31,8 @@ parts block before cells key = is_le (internal_cmp (last_cell_key [] cells) key)
 abbrev pub parted : Bool → ℕ → List Entry → Result (List Entry) TableFault
 parted does block entries = if does then Ok entries else Err (Index block)
 
--- entries with those of one data block behind them. Its index entry has this key and value, the value begins at a
--- place in the file, and so many blocks stand before it, the last with an index key before.
+-- entries with those of one data block after them. Its index entry has this key and value, the value begins at an
+-- offset in the file, and so many blocks stand before it, the last with an index key before.
 unfoldable pub with_block : TableKind → List ℕ → ℕ → ℕ → List ℕ → List ℕ → List ℕ → List Entry → Result (List Entry) TableFault
 with_block kind bytes at block before key value front = do
   handle ← value_handle bytes at value
@@ -40,7 +40,7 @@ with_block kind bytes at block before key value front = do
   entries ← with_entries kind front data'.cells
   parted (parts block before data'.cells key) block entries
 
--- the same of all blocks that the entries of an index block name, the index block beginning at a place in the file
+-- the same of all blocks that the entries of an index block name, the index block beginning at an offset in the file
 abbrev pub with_blocks : TableKind → List ℕ → ℕ → ℕ → ℕ → List ℕ → List Cell → List Entry → Result (List Entry) TableFault
 with_blocks kind bytes at end block before [] front = Ok front
 with_blocks kind bytes at end block before (cell ∷ cells) front =

@@ -16,13 +16,13 @@ abbrev pub may_have : TableKind → ℕ → Bool
 may_have External number = number == 0
 may_have Own number = true
 
--- whether the key and the number stand behind an entry, by key upwards and at one key by number downwards; the kind
+-- whether the key and the number come after an entry, by key upwards and at one key by number downwards; the kind
 -- plays no part in it, so no key and number stands twice
 abbrev pub is_behind : Option Entry → List ℕ → ℕ → Bool
 is_behind None key number = true
 is_behind (Some before) key number = is_before key number before
 
--- the fault of an entry that stands at a place of the table, behind another
+-- the fault of the entry at an index of the table, after another
 abbrev pub entry_fault : TableKind → ℕ → Option Entry → List ℕ → List ℕ → Option TableFault
 entry_fault kind index before internal value =
     if not (is_kind (kind_of internal) value) then Some (Kind index (kind_of internal))
@@ -35,12 +35,12 @@ entry_fault kind index before internal value =
 abbrev pub last_entry : List Entry → Option Entry
 last_entry entries = slice_get entries (length entries - 1)
 
--- entries with one more behind them
+-- entries with one more after them
 abbrev pub with_cell_entry : TableKind → List Entry → List ℕ → List ℕ → Result (List Entry) TableFault
 with_cell_entry kind front internal value =
     unless (entry_fault kind (length front) (last_entry front) internal value) (Ok (front ++ entry_under internal value ∷ []))
 
--- entries with those of a block behind them
+-- entries with those of a block after them
 abbrev pub with_entries : TableKind → List Entry → List Cell → Result (List Entry) TableFault
 with_entries kind front [] = Ok front
 with_entries kind front (cell ∷ cells) = with_cell_entry kind front cell.key cell.value >>= λ entries. with_entries kind entries cells

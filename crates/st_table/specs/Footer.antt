@@ -26,7 +26,7 @@ greatest_size Own = OWN_TABLE_BYTES
 
 -- ---- written
 
--- the checksum type and the handles, with zero bytes behind them up to the version
+-- the checksum type and the handles, with zero bytes after them up to the version
 abbrev pub padded : List ℕ → List ℕ
 padded bytes = bytes ++ replicate (PADDED_BYTES - length bytes) 0
 
@@ -44,7 +44,7 @@ version_of bytes = from_le_bytes w32 (drop (length bytes - 12) bytes)
 abbrev pub checksum_of : List ℕ → ℕ
 checksum_of bytes = slice_index bytes (length bytes - FOOTER_BYTES)
 
--- the two handles behind the checksum type
+-- the two handles after the checksum type
 unfoldable pub handles_of : List ℕ → Result Footer TableFault
 handles_of bytes = do
   metaindex ← footer_handle bytes (length bytes - 52)

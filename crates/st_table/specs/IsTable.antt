@@ -1,4 +1,4 @@
--- A table of a kind, told by its places in the file.
+-- A table of a kind, told by its offsets in the file.
 use Rattle.std.specs.Prelude.{◌≡◌, ℕ, ◌+◌, ◌-◌, ◌≤◌, List, [], ◌∷◌, length, map, Option, Some, None, option_and_then, IfSome, IsTrue, Ok}
 use Rattle.std.specs.List.{AllByRecursion, flat_map}
 use Rattle.std.specs.Ordering.{is_lt, is_le}
@@ -25,7 +25,7 @@ use Rattle.st_table.specs.declared.kind.TableKind.TheVariants.{External, Own}
 use Rattle.st_table.specs.declared.properties.TheConstants.{EXTERNAL_VERSION}
 use Rattle.st_table.specs.declared.stored.TheConstants.{NO_COMPRESSION, TRAILER_BYTES}
 
--- the last 53 bytes: checksum type 1, two handles one behind the other, version 2, the magic number
+-- the last 53 bytes: checksum type 1, two handles one after the other, version 2, the magic number
 pub record IsFooter (bytes : List ℕ) (footer : Footer) : Type 0 where
   pub long : FOOTER_BYTES ≤ length bytes
   pub magic_is : magic_of bytes ≡ MAGIC

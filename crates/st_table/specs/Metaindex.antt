@@ -10,7 +10,7 @@ use Rattle.st_table.specs.Handle.{value_handle}
 use Rattle.st_table.specs.declared.handle.Handle.{Handle}
 use Rattle.st_table.specs.declared.metaindex.TheConstants.{PROPERTIES_NAME, RANGE_DEL_NAME}
 
--- where the value of an entry begins in its block: it ends where the entries behind it begin, or where all end
+-- where the value of an entry begins in its block: it ends where the entries after it begin, or where all end
 abbrev pub value_offset : ℕ → Cell → List Cell → ℕ
 value_offset end cell cells = offset_of end cells - length cell.value
 
@@ -29,7 +29,7 @@ properties_name = PROPERTIES_NAME.now
 abbrev pub range_del_name : List ℕ
 range_del_name = RANGE_DEL_NAME.now
 
--- the handle of the properties in a metaindex block that begins at a place in the file
+-- the handle of the properties in a metaindex block that begins at an offset in the file
 abbrev pub properties_at : List ℕ → ℕ → Option (ℕ × List ℕ) → Result Handle TableFault
 properties_at bytes at None = Err NoProperties
 properties_at bytes at (Some found) = value_handle bytes (at + found.0) found.1

@@ -1,4 +1,4 @@
--- A block as it is stored: its contents, and behind them a trailer of 5 bytes.
+-- A block as it is stored: its contents, followed by a trailer of 5 bytes.
 --
 --   contents | compression type (0 is none) | masked CRC-32C of the contents and that byte (fixed32)
 use Rattle.std.specs.Prelude.{ℕ, ◌+◌, not, ◌==◌, List, [], ◌∷◌, ◌++◌, drop, slice_index, slice_range, Result, Ok, Err, if◌then◌else◌}
@@ -32,7 +32,7 @@ stored_sum bytes handle = from_le_bytes w32 (drop (handle.offset + handle.size +
 abbrev pub found_sum : List ℕ → Handle → ℕ
 found_sum bytes handle = mask (crc32c (slice_range bytes handle.offset (handle.offset + handle.size + 1)))
 
--- the entries of a block that begins at a place in the file, and where they end
+-- the entries of a block that begins at an offset in the file, and where they end
 abbrev pub opened_block : BlockKind → ℕ → List ℕ → Result (List Cell) BlockFault → Result BlockContents TableFault
 opened_block kind at text (Ok cells) = Ok (record { kind = kind; end = entries_end text; cells = cells; restarts = restarts_of text })
 opened_block kind at text (Err fault) = Err (Block at fault)

@@ -50,7 +50,7 @@ fn parts(item: IndexEntry, block: &Block, scratch: &mut Scratch) -> bool
     is_behind && (item.block == 0 || is_past(item.before, block, scratch))
 }
 
-// Puts the entries of the data block that the index entry names behind those before, or finds the first fault.
+// Appends the entries of the data block that the index entry names to those before, or finds the first fault.
 #[tactic(auto, unfolding(crate::specs::DataBlocks::with_block))]
 fn push_block(
     bytes: &Arc<Bytes>,
@@ -80,7 +80,7 @@ fn push_block(
 }
 
 /// The entries of the data blocks that the index block names, in its order, or their first fault. The index block begins
-/// at the place in the file.
+/// at the offset in the file.
 pub(crate) fn data_of(
     alloc: Global,
     bytes: &Arc<Bytes>,

@@ -21,7 +21,7 @@ fn may_have(kind: TableKind, number: u64) -> bool
     }
 }
 
-// Whether the key and the sequence number stand behind the entry before, if there is one.
+// Whether the key and the sequence number come after the entry before, if there is one.
 fn is_behind(before: Option<EntryRef<'_>>, key: &[u8], number: u64) -> bool
     ensures { result ≡ is_behind (option_map entry_of before.entry) key.now number }
 {
@@ -31,7 +31,7 @@ fn is_behind(before: Option<EntryRef<'_>>, key: &[u8], number: u64) -> bool
     }
 }
 
-// The fault of an entry that stands at the place of the table, behind another.
+// The fault of the entry at an index of the table, after another.
 fn entry_fault(
     kind: TableKind,
     index: u64,
@@ -57,7 +57,7 @@ fn entry_fault(
     None
 }
 
-// Puts the entry that an internal key and a value are behind those before, or finds its fault.
+// Appends the entry that an internal key and a value are to those before, or finds its fault.
 fn push_entry(
     kind: TableKind,
     entries: &mut EntryArena,
@@ -80,7 +80,7 @@ fn push_entry(
     }
 }
 
-/// Puts the entries of a data block behind those before, or finds their first fault. The last key stands in the scratch
+/// Appends the entries of a data block to those before, or finds their first fault. The last key stands in the scratch
 /// then.
 pub(crate) fn push_entries(
     kind: TableKind,

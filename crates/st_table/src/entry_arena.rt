@@ -1,10 +1,10 @@
-//! An arena holds the keys and the values of entries one behind the other, in the order in which they came:
+//! An arena holds the keys and the values of entries one after the other, in the order in which they came:
 //!
 //! ```text
 //! key | value | key | value | key | key | value | ..
 //! ```
 //!
-//! Each entry has a place that says where its key begins and ends and where its value ends. A tombstone has no value.
+//! Each entry has a slot that says where its key begins and ends and where its value ends. A tombstone has no value.
 ghost use Rattle.std.specs.Prelude.{◌≡◌, ◌<◌, [], ◌∷◌, ◌++◌, length, take, OnOk, IfOk, Some, slice_get, map, option_map};
 ghost use Rattle.st_base.specs.Rows.{entry_of, mark_of};
 ghost use Rattle.st_table.specs.EntryArena.{EndsValue, Lies, entry_in, mark_in, slot_numbered};
@@ -27,7 +27,7 @@ struct EntrySlot {
     number: u64,
 }
 
-/// Entries in an arena, seen as the list of them. An entry takes a place of 40 bytes beside its key and its value.
+/// Entries in an arena, seen as the list of them. An entry takes a slot of 40 bytes beside its key and its value.
 #[derive(Drop)]
 pub(crate) struct EntryArena {
     bytes: Bytes,
@@ -47,7 +47,7 @@ impl Model for EntryArena {
     ghost invariant = { λ arena. AllByRecursion (Lies (length arena.bytes)) arena.slots };
 }
 
-// Puts the value of a mark at the end, and answers where it ends, if there is one.
+// Appends the value of a mark, and answers where it ends, if there is one.
 fn append_mark(bytes: &mut Bytes, mark: MarkRef<'_>) -> Result<Option<usize>, AllocError>
     ensures kept { take (length bytes.old) bytes.new ≡ bytes.old }
     ensures mark { IfOk result (λ end. mark_in bytes.new (length bytes.old) end ≡ mark_of mark.entry) }
@@ -62,7 +62,7 @@ fn append_mark(bytes: &mut Bytes, mark: MarkRef<'_>) -> Result<Option<usize>, Al
     }
 }
 
-// Puts the key and the value of an entry at the end, and answers where they lie.
+// Appends the key and the value of an entry, and answers where they lie.
 fn append_entry(bytes: &mut Bytes, entry: EntryRef<'_>) -> Result<EntrySlot, AllocError>
     ensures kept { take (length bytes.old) bytes.new ≡ bytes.old }
     ensures entry { IfOk result (λ slot. entry_in bytes.new slot ≡ entry_of entry.entry) }
@@ -80,7 +80,7 @@ fn append_entry(bytes: &mut Bytes, entry: EntryRef<'_>) -> Result<EntrySlot, All
     })
 }
 
-// The entry that lies at a place.
+// The entry of a slot.
 fn entry_ref(bytes: &[u8], slot: EntrySlot) -> EntryRef<'_>
     requires { Lies (length bytes.now) slot }
     ensures { entry_of result ≡ entry_in bytes.now slot }
@@ -96,7 +96,7 @@ fn entry_ref(bytes: &[u8], slot: EntrySlot) -> EntryRef<'_>
     }
 }
 
-// The places under a number.
+// The slots under a number.
 fn numbered(slots: List<EntrySlot>, number: u64) -> List<EntrySlot>
     ensures { result ≡ map (slot_numbered number) slots }
 {
@@ -118,14 +118,13 @@ impl EntryArena {
         }
     }
 
-    /// How many entries there are.
     pub(crate) fn len(&self) -> usize
         ensures { result ≡ length self.now }
     {
         self.slots.len()
     }
 
-    /// The entry at the place.
+    /// The entry at the index.
     pub(crate) fn entry(&self, slot: usize) -> EntryRef<'_>
         requires { slot < length self.now }
         ensures { slice_get self.now slot ≡ Some (entry_of result) }
@@ -133,7 +132,7 @@ impl EntryArena {
         entry_ref(self.bytes.as_slice(), self.slots.as_slice()[slot])
     }
 
-    /// The entry at the place, if there is one.
+    /// The entry at the index, if there is one.
     pub(crate) fn get(&self, slot: usize) -> Option<EntryRef<'_>>
         ensures { option_map entry_of result ≡ slice_get self.now slot }
     {
@@ -151,7 +150,7 @@ impl EntryArena {
         self.get(self.len().saturating_sub(1))
     }
 
-    /// Puts the entry at the end.
+    /// Appends the entry.
     pub(crate) fn push(&mut self, entry: EntryRef<'_>) -> Result<(), AllocError>
         ensures { OnOk result (self.new ≡ self.old ++ entry_of entry.entry ∷ []) }
     {

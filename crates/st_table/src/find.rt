@@ -6,7 +6,7 @@ use crate::entry_arena::EntryArena;
 use st_base::{EntryRef, MarkRef, lower_place_parts_entries};
 use std::cmp::Ordering;
 
-/// Whether the entry comes before the place of the key and the number.
+/// Whether the entry comes before the key and the number.
 pub(crate) fn is_before(entry: EntryRef<'_>, key: &[u8], number: u64) -> bool
     ensures { result ≡ is_before key.now number (entry_of entry.entry) }
 {
@@ -17,7 +17,7 @@ pub(crate) fn is_before(entry: EntryRef<'_>, key: &[u8], number: u64) -> bool
     }
 }
 
-/// The place of the first entry at or after the key and the number, or the number of entries. It halves the entries that
+/// The index of the first entry at or after the key and the number, or the number of entries. It halves the entries that
 /// are left at each step.
 pub(crate) fn lower_in(entries: &EntryArena, key: &[u8], number: u64) -> usize
     requires { IsTrue (in_order entries.now) }

@@ -40,7 +40,7 @@ pub(crate) struct Footer {
     pub(crate) index: Handle,
 }
 
-// Puts zero bytes at the end, up to the version.
+// Appends zero bytes, up to the version.
 fn pad(out: &mut Bytes) -> Result<(), AllocError>
     ensures { OnOk result (out.new ≡ padded out.old) }
 {
@@ -51,7 +51,7 @@ fn pad(out: &mut Bytes) -> Result<(), AllocError>
     Ok(())
 }
 
-/// Puts the footer at the end; where memory runs out, some of it may stand there.
+/// Appends the footer; where memory runs out, some of it may stand there.
 pub fn put_footer(
     alloc: Global,
     out: &mut Bytes,
@@ -70,7 +70,7 @@ pub fn put_footer(
     out.extend_from_slice(footer.as_slice())
 }
 
-// The handles of the metaindex and the index, behind the checksum type.
+// The handles of the metaindex and the index, after the checksum type.
 #[tactic(auto, unfolding(crate::specs::Footer::handles_of))]
 fn handles_of(bytes: &[u8]) -> Result<Footer, TableFault>
     requires { FOOTER_BYTES ≤ length bytes.now }

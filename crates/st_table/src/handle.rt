@@ -20,7 +20,7 @@ pub struct Handle {
     pub size: u64,
 }
 
-/// Puts a handle at the end; where memory runs out, some of it may stand there.
+/// Appends a handle; where memory runs out, some of it may stand there.
 pub(crate) fn put_handle(out: &mut Bytes, handle: Handle) -> Result<(), AllocError>
     ensures { OnOk result (out.new ≡ out.old ++ handle_bytes handle) }
 {

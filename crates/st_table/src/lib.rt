@@ -8,7 +8,7 @@
 //! footer             checksum type, handles of the metaindex and the index, version, magic number
 //! ```
 //!
-//! Each block has a trailer of 5 bytes behind it: its compression type, and its sum.
+//! Each block has a trailer of 5 bytes after it: its compression type, and its sum.
 //!
 //! A layer above may rely on this: what `Table::open` accepts is a table of its kind, and the opened table is the list of
 //! its entries; what it refuses has exactly the first fault in reading order. Bytes are read once, from the footer to the

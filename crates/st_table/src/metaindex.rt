@@ -49,8 +49,8 @@ pub(crate) fn named_in<'a>(
     None
 }
 
-/// The handle of the properties in the metaindex block that begins at the place in the file. A table with range deletions
-/// is refused, and so is one without properties.
+/// The handle of the properties in the metaindex block that begins at the offset in the file. A table with range
+/// deletions is refused, and so is one without properties.
 #[tactic(auto, unfolding(crate::specs::Metaindex::properties_handle))]
 pub(crate) fn properties_handle(
     bytes: &[u8],

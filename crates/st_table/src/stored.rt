@@ -1,4 +1,4 @@
-//! A block as it is stored in a file, with a trailer of 5 bytes behind it:
+//! A block as it is stored in a file, with a trailer of 5 bytes after it:
 //!
 //! ```text
 //! block
@@ -25,7 +25,7 @@ pub const TRAILER_BYTES: usize = 5;
 /// The compression type of a block that isn't compressed.
 const NO_COMPRESSION: u8 = 0;
 
-// Puts a block and its trailer at the end; where memory runs out, some of it may stand there.
+// Appends a block and its trailer; where memory runs out, some of it may stand there.
 fn put_stored(out: &mut Bytes, contents: &[u8]) -> Result<(), AllocError>
     ensures ok { OnOk result (out.new ≡ out.old ++ stored contents.now) }
     ensures err { OnErr result (Appends out.old out.new) }
@@ -39,7 +39,7 @@ fn put_stored(out: &mut Bytes, contents: &[u8]) -> Result<(), AllocError>
     push_fixed32(out, mask(sum.finish()))
 }
 
-/// Puts a block and its trailer at the end; an error leaves the bytes as they were.
+/// Appends a block and its trailer; an error leaves the bytes as they were.
 pub fn push_stored(out: &mut Bytes, contents: &[u8]) -> Result<(), AllocError>
     ensures ok { OnOk result (out.new ≡ out.old ++ stored contents.now) }
     ensures err { OnErr result (out.new ≡ out.old) }

@@ -49,7 +49,6 @@ fn inputs(alloc: Global, text: &str, failing: u64) -> Result<MemInputs, Fail> {
     Ok(MemInputs::new(files, List::from_slice(alloc, &[failing])?))
 }
 
-// A source of these bytes.
 fn source(alloc: Global, bytes: &[u8], failing: u64) -> Result<MemSource, AllocError> {
     let failing = List::from_slice(alloc, &[failing])?;
     Ok(MemSource::new(Bytes::from_slice(alloc, bytes)?, failing))

@@ -119,7 +119,7 @@ fn internal_keys_are_ordered(rt: HostRuntime) {
     }
 }
 
-// Puts an entry at the end, if there is room.
+// Appends an entry, if there is room.
 fn put(writer: &mut BlockWriter, key: &[u8], value: &[u8]) -> Result<bool, AllocError> {
     if !writer.has_room(key, value) {
         return Ok(false);
@@ -128,7 +128,7 @@ fn put(writer: &mut BlockWriter, key: &[u8], value: &[u8]) -> Result<bool, Alloc
     Ok(true)
 }
 
-// Puts the three entries at the end.
+// Appends the three entries.
 fn put_three(writer: &mut BlockWriter) -> Result<bool, AllocError> {
     for (key, _number, value) in ENTRIES.iter() {
         if !put(writer, key, value)? {
@@ -157,7 +157,7 @@ fn entries_are_written(rt: HostRuntime) {
     assert!(rt; text.as_slice() == THREE.as_slice());
 }
 
-// Whether the entry has the value, and the place of the next one.
+// Whether the entry has the value, and the offset of the next one.
 fn is_entry(entry: BlockEntry<'_>, value: &[u8], next: usize) -> bool {
     entry.value == value && entry.next == next
 }
@@ -187,7 +187,7 @@ fn what_is_written_is_read(rt: HostRuntime) {
     assert!(rt; scratch.as_slice() == ENTRIES[0].0);
 }
 
-// Keys and numbers, and the places in the block of three entries at which they are found.
+// Keys and numbers, and the offsets in the block of three entries at which they are found.
 static LOOKED_FOR: [(&[u8], u64, usize); 9] = [
     (b"", 9, 0),
     (b"a", 5, 0),
@@ -200,7 +200,7 @@ static LOOKED_FOR: [(&[u8], u64, usize); 9] = [
     (b"b", 9, 41),
 ];
 
-// Whether each of them is found at its place.
+// Whether each of them is found at its offset.
 fn are_found(block: &Block, scratch: &mut Scratch) -> bool
     requires { IsTrue (internal_keys_rise block.now.cells) }
 {

@@ -36,7 +36,7 @@ fn a_sum_is_taken_in_pieces_and_masked(rt: HostRuntime) {
     assert!(rt; mask(0xE306_9283) == 0xC78A_B0E5);
 }
 
-// Bytes, a place in them, and the varint32 there with the place behind it.
+// Bytes, an offset in them, and the varint32 there with the offset after it.
 static VARINTS32: [(&[u8], usize, Result<(u32, usize), CodeFault>); 8] = [
     (b"\xb3\x01", 0, Ok((179, 2))),
     (b"\x00\xac\x02", 1, Ok((300, 3))),
@@ -74,10 +74,10 @@ fn varints_are_read(rt: HostRuntime) {
     }
 }
 
-// Two varints, a fixed32 and a fixed64, written one behind the other.
+// Two varints, a fixed32 and a fixed64, written one after the other.
 static NUMBERS: [u8; 16] = *b"\xb3\x01\xac\x02\x01\x02\x03\x04\xf7\xcf\xf4\x85\xb7\x41\xe2\x88";
 
-// Puts these numbers at the end.
+// Appends these numbers.
 fn put_numbers(out: &mut Bytes) -> bool {
     push_varint(out, 179).is_ok()
         && push_varint(out, 300).is_ok()

@@ -49,7 +49,7 @@ fn front(value: &[u8], bytes: Option<usize>) -> Option<&[u8]> {
 }
 
 // A key, how many bytes of a value it is set to, and the answer. With 63 values of 1,048,576 bytes before it, the table has
-// 67,108,864 bytes behind the second step.
+// 67,108,864 bytes after the second step.
 static LAST_STEPS: [(&[u8], Option<usize>, Answer); 4] = [
     (b"?", Some(1_045_095), Err(WriterFault::TooLarge)),
     (b"?", Some(1_045_094), Ok(())),
@@ -101,7 +101,6 @@ fn refused(alloc: Global) -> Option<SstFileWriter> {
     }
 }
 
-// The finished table.
 fn finished(alloc: Global, writer: SstFileWriter) -> Option<Bytes> {
     match writer.finish(alloc) {
         Ok(bytes) => Some(bytes),

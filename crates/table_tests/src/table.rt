@@ -21,7 +21,7 @@ type Case = (
     Option<Fault>,
 );
 
-// What is put at a place of that table, the block's sum that is made new at another, and the fault that is found.
+// What is put at an offset of that table, the block's sum that is made new at another, and the fault that is found.
 static CASES: [Case; 26] = [
     // Nothing changed.
     (0, b"", 0, b"", EXTERNAL, None),
@@ -88,7 +88,7 @@ static CASES: [Case; 26] = [
         EXTERNAL,
         Some(Fault::NoProperties),
     ),
-    // Properties handle has a byte behind it.
+    // Properties handle has a byte after it.
     (
         258,
         b"53\x00",
@@ -193,7 +193,7 @@ static CASES: [Case; 26] = [
     (5, b"\x01", 22, b"\x82~\xf9:", OWN, None),
 ];
 
-// Puts the bytes over those at the place.
+// Puts the bytes over those at the offset.
 fn patch(text: &mut Vec<u8>, at: usize, bytes: &[u8]) {
     for i in 0..bytes.len() {
         if i < text.len() && at < text.len() - i {
@@ -202,12 +202,10 @@ fn patch(text: &mut Vec<u8>, at: usize, bytes: &[u8]) {
     }
 }
 
-// The table of these bytes.
 fn open(alloc: Global, text: &[u8], kind: TableKind) -> Result<Table, OpenTableFault> {
     Table::open(alloc, shared(alloc, text)?, kind, 0)
 }
 
-// The fault of these bytes.
 fn fault_in(alloc: Global, text: &[u8], kind: TableKind) -> Result<Option<Fault>, AllocError> {
     match open(alloc, text, kind) {
         Ok(_table) => Ok(None),
@@ -259,7 +257,7 @@ fn mark_of(value: Option<&[u8]>) -> MarkRef<'_> {
     }
 }
 
-// Whether the entry at the place is that of the row, with number 0, and is found under its key.
+// Whether the entry at the index is that of the row, with number 0, and is found under its key.
 fn has_row(table: &Table, place: usize, row: Row<'_>, scratch: &mut Scratch) -> bool {
     let mark = mark_of(row.1);
     if table.find(row.0, 0, scratch) != Some((0, mark)) || place >= table.len() {
@@ -297,7 +295,7 @@ fn a_table_of_rocksdb_is_opened(rt: HostRuntime) {
     assert!(rt; is_opened);
 }
 
-// Puts an entry at the end, if it is within the limits.
+// Appends an entry, if it is within the limits.
 fn put(
     alloc: Global,
     writer: &mut TableWriter,
@@ -333,7 +331,7 @@ fn value_unless(is_gone: bool, value: &'static [u8]) -> Option<&'static [u8]> {
     if is_gone { None } else { Some(value) }
 }
 
-// Puts one of the 22 entries at the end.
+// Appends one of the 22 entries.
 fn put_of_several(alloc: Global, writer: &mut TableWriter, i: u8) -> Result<bool, AddFault> {
     let key = [b'k', b'e', b'y', b'0' + i / 10 % 10, b'0' + i % 10];
     let value = value_unless(i % 7 == 3, b"a value of some bytes");
@@ -352,14 +350,14 @@ fn key_of_many(i: u16) -> [u8; 6] {
     ]
 }
 
-// Puts one of the 400 entries at the end.
+// Appends one of the 400 entries.
 fn put_of_many(alloc: Global, writer: &mut TableWriter, i: u16) -> Result<bool, AddFault> {
     let key = key_of_many(i / 2);
     let value = value_unless(i % 5 == 4, b"a value of some thirty bytes ..");
     put(alloc, writer, &key, 1000u16.saturating_sub(i), value)
 }
 
-// Puts the 22 entries at the end.
+// Appends the 22 entries.
 fn put_several(alloc: Global, writer: &mut TableWriter) -> Result<bool, AddFault> {
     for i in 0..22u8 {
         put_of_several(alloc, writer, i)?;
@@ -367,7 +365,7 @@ fn put_several(alloc: Global, writer: &mut TableWriter) -> Result<bool, AddFault
     Ok(true)
 }
 
-// Puts the 400 entries at the end.
+// Appends the 400 entries.
 fn put_many(alloc: Global, writer: &mut TableWriter) -> Result<bool, AddFault> {
     for i in 0..400u16 {
         put_of_many(alloc, writer, i)?;
@@ -375,7 +373,7 @@ fn put_many(alloc: Global, writer: &mut TableWriter) -> Result<bool, AddFault> {
     Ok(true)
 }
 
-// Puts the entries of a table at the end.
+// Appends the entries of a table.
 fn put_all(alloc: Global, writer: &mut TableWriter, sample: Sample) -> Result<bool, AddFault> {
     match sample {
         Sample::One => put(alloc, writer, b"a", 0, Some(b"1")),
@@ -390,7 +388,6 @@ fn fill(alloc: Global, writer: &mut TableWriter, sample: Sample) -> Option<Bytes
     writer.finish(alloc).ok()
 }
 
-// The written table.
 fn written(alloc: Global, kind: TableKind, sample: Sample) -> Option<Bytes> {
     match TableWriter::new(alloc, kind) {
         Ok(mut writer) => fill(alloc, &mut writer, sample),
@@ -453,14 +450,14 @@ fn accepts(alloc: Global, text: &[u8], before: &Table) -> Result<Option<bool>, A
     }
 }
 
-// Changes the byte at the place, or changes it back.
+// Changes the byte at the offset, or changes it back.
 fn flip(text: &mut [u8], place: usize, change: u8) {
     if let Some(byte) = text.get_mut(place) {
         *byte ^= change;
     }
 }
 
-// How many of the changes of the byte at the place are accepted, and whether all that are have the entries before.
+// How many of the changes of the byte at the offset are accepted, and whether all that are have the entries before.
 fn changes_accepted(
     alloc: Global,
     text: &mut [u8],
@@ -480,8 +477,8 @@ fn changes_accepted(
     Ok((accepted, are_all))
 }
 
-// How many of the changes of the byte at the place leave a table: all of the padding, and of the byte before it that which
-// makes its varint one byte longer.
+// How many of the changes of the byte at the offset leave a table: all of the padding, and of the byte before it that
+// which makes its varint one byte longer.
 fn unseen_changes(place: usize) -> u32 {
     if (PADDING..LENGTH - 12).contains(&place) {
         return 255;
@@ -489,7 +486,7 @@ fn unseen_changes(place: usize) -> u32 {
     if place == PADDING - 1 { 1 } else { 0 }
 }
 
-// The first place at which other changes are accepted than those that are unseen, if there is one.
+// The first offset at which other changes are accepted than those that are unseen, if there is one.
 fn wrongly_accepted(
     alloc: Global,
     text: &mut [u8],
@@ -533,7 +530,7 @@ fn changes_are_found(rt: HostRuntime) {
     assert!(rt; place == None, "at {place:?}");
 }
 
-// A key and a number, the place of the first entry at or after them, and the number of the newest entry of the key.
+// A key and a number, the index of the first entry at or after them, and the number of the newest entry of the key.
 type Search = (&'static [u8], u64, usize, Option<u64>);
 
 static SEARCHES: [Search; 6] = [

@@ -58,7 +58,7 @@ blocks_of pairs = closed_with (cut_of pairs).closed (cut_of pairs).open_block
 abbrev pub data_block : List Pair → List ℕ
 data_block pairs = written_block RESTART_INTERVAL pairs
 
--- data blocks one behind the other
+-- data blocks one after the other
 abbrev pub data_bytes : List (List Pair) → List ℕ
 data_bytes blocks = flat_map (λ pairs. stored (data_block pairs)) blocks
 
@@ -67,7 +67,7 @@ abbrev pub index_pairs : ℕ → List (List Pair) → List Pair
 index_pairs at [] = []
 index_pairs at (pairs ∷ blocks) = (last_pair_key [] pairs, handle_bytes (record { offset = at; size = length (data_block pairs) })) ∷ index_pairs (at + length (stored (data_block pairs))) blocks
 
--- ---- what stands behind the data blocks
+-- ---- what follows the data blocks
 
 -- the properties that tables of one kind have
 abbrev pub kind_pairs : TableKind → List Pair
@@ -85,7 +85,7 @@ properties_block kind count = written_block 1 (property_pairs kind count)
 abbrev pub metaindex_block : Handle → List ℕ
 metaindex_block handle = written_block 1 ((properties_name, handle_bytes handle) ∷ [])
 
--- properties, metaindex and footer behind the index block, where the properties begin at an offset
+-- properties, metaindex and footer after the index block, where the properties begin at an offset
 abbrev pub ending_from : ℕ → Handle → List ℕ → List ℕ → List ℕ
 ending_from at index properties metaindex =
     stored properties ++ stored metaindex

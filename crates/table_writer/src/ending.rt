@@ -12,7 +12,7 @@ use st_table::{
 };
 use std::alloc::{AllocError, Global};
 
-// Puts a value under a name at the end.
+// Appends a value under a name.
 fn add_name(writer: &mut BlockWriter, name: &[u8], value: &[u8]) -> Result<(), AllocError>
     requires { bytes_in writer.old + length name.now + length value.now ≤ 10000 }
     ensures holds { (pairs : List Pair) → HoldsPairs writer.old pairs
@@ -25,7 +25,7 @@ fn add_name(writer: &mut BlockWriter, name: &[u8], value: &[u8]) -> Result<(), A
     Ok(())
 }
 
-// Puts the properties that tables of this kind have at the end.
+// Appends the properties that tables of this kind have.
 fn add_kind(writer: &mut BlockWriter, kind: TableKind) -> Result<(), AllocError>
     requires { bytes_in writer.old ≤ 1000 }
     ensures holds { (pairs : List Pair) → HoldsPairs writer.old pairs
@@ -67,7 +67,7 @@ fn metaindex_block(alloc: Global, properties: Handle) -> Result<Bytes, AllocErro
     Ok(bytes)
 }
 
-/// What stands behind the index block of a table of this kind with so many entries: the properties, which begin at the
+/// What follows the index block of a table of this kind with so many entries: the properties, which begin at the
 /// offset in the file, the metaindex and the footer.
 pub(crate) fn ending(
     alloc: Global,

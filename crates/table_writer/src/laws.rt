@@ -8,7 +8,7 @@ ghost use Rattle.table_writer.specs.Writer.{HoldsEntries, Writer, entry_added};
 
 use st_block::written_block_opens;
 
-/// Who adds an entry to a writer that holds some adds it behind them.
+/// An entry that is added to a writer comes after those that it holds.
 pub fn table_writer_holds_what_is_added()
     ensures { (writer : Writer) (entries : List Entry) (entry : Entry)
         → HoldsEntries writer entries → HoldsEntries (entry_added writer entry) (entries ++ entry ∷ []) }

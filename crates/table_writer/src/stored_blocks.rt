@@ -57,7 +57,7 @@ pub(crate) fn push_block(
     Ok(())
 }
 
-/// The table of these data blocks, which are stored one behind the other, and this index block.
+/// The table of these data blocks, which are stored one after the other, and this index block.
 pub(crate) fn whole_table(
     alloc: Global,
     kind: TableKind,
@@ -76,7 +76,7 @@ pub(crate) fn whole_table(
     Ok(out)
 }
 
-/// The table of these data blocks, which are stored one behind the other, and of the open one, which has entries.
+/// The table of these data blocks, which are stored one after the other, and of the open one, which has entries.
 pub(crate) fn table_with(
     alloc: Global,
     kind: TableKind,

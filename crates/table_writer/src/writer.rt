@@ -24,7 +24,7 @@ const BLOCK_BYTES: usize = 4_096;
 /// There is a restart at every so many entries of a data block.
 const RESTART_INTERVAL: u32 = 16;
 
-/// What stands behind the index block has at most so many bytes.
+/// What follows the index block has at most so many bytes.
 const ENDING_BYTES: usize = 1_000;
 
 /// An entry that is added makes its block longer by at most so many bytes beside its internal key and its value: three lengths
@@ -139,7 +139,7 @@ impl TableWriter {
         self.has_exact_room(alloc, internal, value)
     }
 
-    // Puts an entry at the end and closes its block.
+    // Appends an entry and closes its block.
     fn close_with(&mut self, alloc: Global, internal: &[u8], value: &[u8]) -> Result<(), AllocError>
         requires key { length internal.now ≤ INTERNAL_KEY_BYTES }
         requires value { length value.now ≤ VALUE_BYTES }
@@ -172,7 +172,7 @@ impl TableWriter {
         at_most >= BLOCK_BYTES && self.block.size_with(internal, value) >= BLOCK_BYTES
     }
 
-    // Puts an entry at the end, and closes its block where it has grown large enough.
+    // Appends an entry, and closes its block where it has grown large enough.
     fn put(&mut self, alloc: Global, internal: &[u8], value: &[u8]) -> Result<(), AllocError>
         requires key { length internal.now ≤ INTERNAL_KEY_BYTES }
         requires value { length value.now ≤ VALUE_BYTES }
@@ -188,7 +188,7 @@ impl TableWriter {
         Ok(())
     }
 
-    // Puts the entry of this internal key and value at the end, or leaves the writer as it was.
+    // Appends the entry of this internal key and value, or leaves the writer as it was.
     fn add_internal(&mut self, alloc: Global, internal: &[u8], value: &[u8]) -> Result<(), AddFault>
         requires key { length internal.now ≤ INTERNAL_KEY_BYTES }
         requires value { length value.now ≤ VALUE_BYTES }
@@ -205,7 +205,7 @@ impl TableWriter {
         Ok(())
     }
 
-    /// Puts an entry at the end; an error leaves the writer as it was. `TooLarge` comes exactly where the finished table
+    /// Appends an entry; an error leaves the writer as it was. `TooLarge` comes exactly where the finished table
     /// would pass the limit of its kind, unless memory runs out before. The work is that of the entry, and of its block
     /// where that is closed.
     pub fn add(&mut self, alloc: Global, entry: EntryRef<'_>) -> Result<(), AddFault>

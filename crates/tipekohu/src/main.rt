@@ -40,7 +40,7 @@ fn run_here<R: Files<File = File> + Print + Input + Env + AllocGlobal + Clone + 
     Ok(status)
 }
 
-// Only want of memory keeps the words from being read.
+// Where memory runs out, the words aren't read.
 fn main(rt: HostRuntime) -> ExitCode {
     let status = run_here(&rt).unwrap_or(Status::Memory);
     ExitCode::from(status.number())
