@@ -1,6 +1,6 @@
 #!/usr/bin/env bash
 # Measures what the gate costs, from nothing, crate by crate: processor seconds (user and system) of the proof alone, of the
-# tests and the program, and of the must-fail edits, and of one `rt selftest` before and behind them, whose mean is the
+# tests and the program, and of the must-fail edits, and of one `rt selftest` before and after them, whose mean is the
 # yardstick, since machines differ. It works in a fresh clone of what is committed, on as many crates at once as there are
 # processors, each with one job, from the bottom up; and writes the table of docs/PROVING.md between its two marks. It takes
 # as long as the gate. With words it measures these crates alone, prints their rows and writes nothing.
@@ -74,7 +74,7 @@ for name in "${crates[@]}"; do cat "$folder/rows/$name"; done | awk -v before="$
   END {
     size = sum[2] + sum[3] + sum[4]
     printf "| together | %d | %d | %d | %d | %.0f | %.0f | %.0f | %.2f |\n\n", sum[2], sum[3], sum[4], sum[5], sum[6], sum[7], sum[8], (sum[6] + sum[7] + sum[8]) / unit * 1000 / size
-    printf "One `rt selftest` took %.1f s before and %.1f s behind these; together they are %.1f selftests, of which the proofs are %.1f, tests and programs %.1f, and edits %.1f.\n", before, after, (sum[6] + sum[7] + sum[8]) / unit, sum[6] / unit, sum[7] / unit, sum[8] / unit
+    printf "One `rt selftest` took %.1f s before and %.1f s after these; together they are %.1f selftests, of which the proofs are %.1f, tests and programs %.1f, and edits %.1f.\n", before, after, (sum[6] + sum[7] + sum[8]) / unit, sum[6] / unit, sum[7] / unit, sum[8] / unit
   }' >"$folder/table"
 cat "$folder/table"
 if [ -s "$folder/failed" ]; then

@@ -11,7 +11,7 @@ entries="${1:-1000000}"
 program="${2:-$here/../crates/tipekohu/out/tipekohu}"
 command -v python3 >/dev/null || { echo "tables: skipped, no python3"; exit 0; }
 # the gate leaves the program that it built; without it, it is proved and built here
-[ -x "$program" ] || (cd ../crates/tipekohu && rt run >/dev/null 2>&1)
+[ -x "$program" ] || bash ../samples/build
 [ -x "$program" ] || { echo "tables: no program $program"; exit 1; }
 folder="$(mktemp -d)" || exit 1
 trap 'rm -rf "$folder"' EXIT

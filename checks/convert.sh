@@ -4,7 +4,7 @@
 cd "$(dirname "$0")/../crates/tipekohu" || exit 1
 program="$PWD/out/tipekohu"
 # without it, it is proved and built here
-[ -x "$program" ] || rt run >/dev/null 2>&1
+[ -x "$program" ] || bash ../../samples/build || exit 1
 folder="$(mktemp -d)" || exit 1
 trap 'rm -rf "$folder"' EXIT
 cd "$folder" || exit 1
@@ -27,7 +27,7 @@ expect() {
 changed() { { head -c "$1" table; printf "\\x$2"; tail -c "+$(($1 + 2))" table; } >in; }
 letters() { head -c "$1" /dev/zero | tr '\0' k; }
 
-# the table of `put a 1`, by places
+# the table of `put a 1`, by offsets
 printf 'put a 1\n' >text
 "$program" build <text >table || failed=1
 hex() { od -An -v -tx1 -j "$1" -N "$2" table | tr -d ' \n'; }

@@ -6,14 +6,7 @@ batches=2000
 kills=20
 built="$PWD/out/tipekohu"
 # the gate leaves the program that it built; without it, it is proved and built here
-if [ ! -x "$built" ]; then
-  rt run >/tmp/tipekohu-kill.$$ 2>&1
-  if [ ! -x "$built" ]; then
-    cat "/tmp/tipekohu-kill.$$"
-    exit 1
-  fi
-  rm -f "/tmp/tipekohu-kill.$$"
-fi
+[ -x "$built" ] || bash ../../samples/build || exit 1
 folder="$(mktemp -d)" || exit 1
 trap 'rm -rf "$folder"' EXIT
 cp "$built" "$folder/program" && cd "$folder" || exit 1

@@ -4,7 +4,7 @@
 # isn't part of the gate.
 cd "$(dirname "$0")" || exit 1
 program="$PWD/../crates/tipekohu/out/tipekohu"
-[ -x "$program" ] || (cd ../crates/tipekohu && rt run >/dev/null 2>&1)
+[ -x "$program" ] || bash ../samples/build || exit 1
 command -v gcc >/dev/null || { echo "memory: skipped, no gcc"; exit 0; }
 folder="$(mktemp -d)" || exit 1
 trap 'rm -rf "$folder"' EXIT

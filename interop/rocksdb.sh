@@ -14,7 +14,7 @@ for tool in g++ python3; do
 done
 echo '#include <rocksdb/db.h>' | g++ -std=c++17 -fsyntax-only -x c++ - 2>/dev/null || { echo "rocksdb: skipped, no RocksDB"; exit 0; }
 # the gate leaves the program that it built; without it, it is proved and built here
-[ -x "$program" ] || (cd ../crates/tipekohu && rt run >/dev/null 2>&1)
+[ -x "$program" ] || bash ../samples/build
 [ -x "$program" ] || { echo "rocksdb: no program $program"; exit 1; }
 folder="$(mktemp -d)" || exit 1
 trap 'rm -rf "$folder"' EXIT
