@@ -3,9 +3,9 @@
 ghost use Rattle.std.specs.Prelude.{IfOk};
 ghost use Rattle.log_engine.specs.Op.{IsWrite};
 
+use log_engine::{Engine, Options};
 use st_base::{Family, Key, List, MakeFault, Value};
 use st_device::MemDisk;
-use log_engine::{Engine, Options};
 use st_model::{Batch, Op};
 use std::alloc::Global;
 
