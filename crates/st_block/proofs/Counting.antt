@@ -100,7 +100,7 @@ module _ (kind : BlockKind) (text : List ℕ) (layout : Layout) (key : List ℕ)
 
   interval : (from : ℕ) → IsLast kind text layout key number from → length (cells_at from block.cells) ≤ length (cells_from_place key number block.cells) + widest block.cells block.restarts
   interval from last =
-      subst (λ (k : ℕ). length (cells_at k block.cells) ≤ length (cells_from_place key number block.cells) + widest block.cells block.restarts) (sym last.place)
+      subst (λ (k : ℕ). length (cells_at k block.cells) ≤ length (cells_from_place key number block.cells) + widest block.cells block.restarts) (sym last.offset)
       (elim last.after [
         | inl end ↦ let g = behind_last block.cells text layout.end layout.restarts last.low end in omega (arith, g)
         | inr next ↦ by_next next

@@ -60,7 +60,7 @@ returns-clause-last g c =
     let next : c.loop-low.high ≡ suc c.loop-low.low = omega (arith, i.within, c.loop-low-test.false) in
     record {
       low = c.loop-low.low;
-      place = c.fixed32_in.ensures;
+      offset = c.fixed32_in.ensures;
       within = omega (arith, i.within, i.top);
       after = elim i.after [
         | inl end ↦ inl (sym next ∙ end)
