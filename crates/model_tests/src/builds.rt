@@ -1,8 +1,7 @@
 // build_text: build text.
 
 use build_text::{
-    BuildFault, BuildLineFault, build_text_is_read, next_build_line, print_build, push_build_line,
-    read_build, read_build_line,
+    BuildFault, build_text_is_read, print_build, push_build_line, read_build, read_word, split_once,
 };
 use st_base::{Bytes, Entries, Entry, EntryRef, Key, MakeFault, Mark, MarkRef, Value};
 use std::alloc::{AllocError, Global};
@@ -126,23 +125,47 @@ fn limits_are_kept(rt: HostRuntime) -> Result<(), Fail> {
     Ok(())
 }
 
-// Whether the line is read as the key `k` with this value.
-fn is_read(alloc: Global, line: &[u8], wanted: &[u8]) -> Result<bool, BuildLineFault> {
-    let (key, mark) = read_build_line(alloc, line)?;
-    match mark {
-        Mark::Put(value) => Ok(key.as_bytes() == b"k".as_slice() && value.as_bytes() == wanted),
-        Mark::Gone => Ok(false),
+// Whether the entry sets the key `k` to this value.
+fn sets_k(entry: &Entry, wanted: &[u8]) -> bool {
+    match &entry.mark {
+        Mark::Put(value) => entry.key.as_bytes() == b"k".as_slice() && value.as_bytes() == wanted,
+        Mark::Gone => false,
     }
 }
 
 #[test]
 fn lines_are_read(rt: HostRuntime) -> Result<(), Fail> {
-    assert!(rt; next_build_line(b"del b\nput") == Some((b"del b".as_slice(), b"put".as_slice())));
-    assert!(rt; next_build_line(b"del b").is_none());
-    assert!(rt; is_read(rt.alloc(), b"put k \\x0a", b"\n")?);
-    let read = read_build_line(rt.alloc(), b"put k");
-    assert!(rt; matches!(read, Err(BuildLineFault::Line)));
+    assert!(rt; split_once(b"del b\nput", b'\n') == Some((b"del b".as_slice(), b"put".as_slice())));
+    assert!(rt; split_once(b"del b", b'\n').is_none());
+    let entries = read_build(rt.alloc(), b"put k \\x0a\n")?;
+    assert!(rt; entries.len() == 1);
+    assert!(rt; entries.as_slice().iter().all(|entry| sets_k(entry, b"\n")));
     Ok(())
+}
+
+// Whether the word, with room for two bytes, is read as these; or none of it, where none are given.
+fn is_word_of(alloc: Global, word: &[u8], wanted: Option<&[u8]>) -> bool {
+    let mut scratch = Bytes::new(alloc);
+    match read_word(word, 2, &mut scratch) {
+        Ok(bytes) => wanted == Some(bytes),
+        Err(_) => wanted.is_none(),
+    }
+}
+
+#[test]
+fn words_are_read(rt: HostRuntime) {
+    for (word, wanted) in [
+        ("ab", Some(b"ab".as_slice())),
+        ("\\e", Some(b"".as_slice())),
+        ("\\x00b", Some(b"\x00b".as_slice())),
+        ("abc", None),
+        ("\\x00bc", None),
+        ("\\x0", None),
+        ("a=", None),
+        ("", None),
+    ] {
+        assert!(rt; is_word_of(rt.alloc(), word.as_bytes(), wanted), "{word}");
+    }
 }
 
 #[test]
