@@ -1,6 +1,6 @@
 use Rattle.std.proofs.Common.{◌<◌, ◌++◌, ◌∷◌, [], ℕ, List, length, subst}
 use Rattle.st_base.specs.declared.entry.Mark.TheVariants.{Gone}
-use Rattle.st_table.specs.Written.{written_table}
+use Rattle.table_writer.specs.Written.{written_table}
 use Rattle.st_table.specs.declared.kind.TableKind.TheVariants.{External}
 use Rattle.sst_writer.specs.Sst.{entry_with}
 use Rattle.sst_writer.proofs.writer.SstFileWriter.delete.Goals as goal
