@@ -63,6 +63,19 @@ pub unfinished_gives : (entries : List Entry) (fault : FinishFault) → (fault �
 unfinished_gives entries finish.NoEntry none = ap (λ (l : List Entry). some_entries (Ok l)) (none.0 refl)
 unfinished_gives entries finish.OutOfMemory none = tt
 
+-- the fault at which the lines end, whatever was taken before
+stopped : (fault : BuildFault) (entries : List Entry) (reading : Result (List Entry) BuildFault) → GivesMore {X = Unit {0}} (Err fault) entries reading → GivesEntries (Err fault) reading
+stopped (build.Line n) entries reading h = h
+stopped (build.TooLarge n) entries reading h = h
+stopped (build.NotRising n) entries reading h = h
+stopped build.NoEntry entries reading h = h
+stopped build.OutOfMemory entries reading h = tt
+
+pub stops_at : (before : List Entry) → before ≡ [] → (fault : BuildFault) (entries : List Entry) (text : List ℕ) → GivesMore {X = Unit {0}} (Err fault) entries (entries_from fit_table before 1 (text_parts text)) → GivesEntries (Err fault) (entries_from fit_table [] 1 (text_parts text))
+stops_at before none fault entries text h =
+    stopped fault entries (entries_from fit_table [] 1 (text_parts text))
+    (subst (λ (l : List Entry). GivesMore {X = Unit {0}} (Err fault) entries (entries_from fit_table l 1 (text_parts text))) none h)
+
 -- a text that is read
 pub read_gives : (entries : List Entry) (text : List ℕ) (table : Result (List ℕ) BuildFault) → entries_from fit_table [] 1 (text_parts text) ≡ Ok entries → GivesTable table (some_entries (Ok entries)) → GivesTable table (build_of fit_table text)
 read_gives entries text table read h = subst (GivesTable table) (sym (ap some_entries read) ∙ build_begin fit_table text) h

@@ -1,6 +1,9 @@
 //! A store on a disk in memory: opened, written, and opened again. A function answers None where a call that it makes
 //! refuses.
-ghost use Rattle.std.specs.Prelude.{IfOk};
+ghost use Rattle.std.specs.Prelude.{IfOk, IfSome};
+ghost use Rattle.st_device.specs.Disk.{IsHonest};
+ghost use Rattle.st_device.specs.MemDisk.{told};
+ghost use Rattle.log_engine.specs.Engine.{IsTied};
 ghost use Rattle.log_engine.specs.Op.{IsWrite};
 
 use log_engine::{Engine, Options};
@@ -27,10 +30,21 @@ fn write_of(alloc: Global, key: &[u8], value: &[u8]) -> Result<Batch, MakeFault>
     Ok(Batch { ops })
 }
 
+// The store of the disk, which is made where it isn't there. The clause is what `Engine::write` asks for.
+fn open(alloc: Global, disk: MemDisk) -> Option<Engine<MemDisk>>
+    ensures { IfSome result
+        (λ engine. IsHonest (told engine.disk) → IsTied engine.wal engine.store (told engine.disk)) }
+{
+    match Engine::open(alloc, disk, OPTIONS) {
+        Ok(engine) => Some(engine),
+        Err(_) => None,
+    }
+}
+
 // Makes a store on the disk, writes to it, and hands the disk back.
 fn write(alloc: Global, disk: MemDisk) -> Option<MemDisk> {
     let batch = write_of(alloc, b"fig", b"ripe").ok()?;
-    let mut engine = Engine::open(alloc, disk, OPTIONS).ok()?;
+    let mut engine = open(alloc, disk)?;
     let wrote = engine.write(&batch);
     let disk = engine.close();
     wrote.ok()?;
@@ -41,7 +55,7 @@ fn write(alloc: Global, disk: MemDisk) -> Option<MemDisk> {
 fn read(alloc: Global, disk: MemDisk) -> Option<Value> {
     let family = Family::new(alloc, b"default").ok()?;
     let key = Key::new(alloc, b"fig").ok()?;
-    let engine = Engine::open(alloc, disk, OPTIONS).ok()?;
+    let engine = open(alloc, disk)?;
     engine.read_now(&family, &key).ok()?
 }
 
