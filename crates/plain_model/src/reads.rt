@@ -19,8 +19,8 @@ fn last_write<'a>(writes: &'a [Entry], number: u64, key: &Key) -> Option<&'a Mar
     found
 }
 
-// The key's mark as of the number.
-fn mark_at<'a>(family: &'a ModelFamily, number: u64, key: &Key) -> Option<&'a Mark>
+/// The key's mark as of the sequence number: that of its last write up to it, else that of the family's base.
+pub fn mark_at<'a>(family: &'a ModelFamily, number: u64, key: &Key) -> Option<&'a Mark>
     ensures { option_copied result ≡ mark_at family.now number key.now }
 {
     match last_write(family.writes.as_slice(), number, key) {
@@ -29,8 +29,7 @@ fn mark_at<'a>(family: &'a ModelFamily, number: u64, key: &Key) -> Option<&'a Ma
     }
 }
 
-/// The key's value as of the sequence number: that of its last write up to it, else that of the family's base. A
-/// tombstone has no value.
+/// The key's value as of the sequence number. A tombstone has none, and nor has a key without a mark.
 pub fn read(family: &ModelFamily, number: u64, key: &Key) -> Result<Option<Value>, AllocError>
     ensures { IfOk result (λ value. value ≡ read family.now number key.now) }
 {

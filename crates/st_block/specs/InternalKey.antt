@@ -4,7 +4,7 @@ use Rattle.std.specs.Prelude.{ℕ, ◌+◌, ◌-◌, ◌*◌, ◌/◌, ◌%◌, 
 use Rattle.std.specs.Int.{w64, from_le_bytes}
 use Rattle.std.specs.declared.cmp.Ordering.{Ordering}
 use Rattle.std.specs.Ordering.{is_lt}
-use Rattle.st_base.specs.Order.{place_cmp}
+use Rattle.st_base.specs.Order.{position_cmp}
 use Rattle.st_base.specs.declared.entry.Entry.{Entry}
 use Rattle.st_base.specs.declared.entry.Mark.{Mark}
 use Rattle.st_base.specs.declared.entry.Mark.TheVariants.{Put, Gone}
@@ -29,11 +29,11 @@ kind_of internal = packed internal % KINDS
 
 -- by key upwards, and at one key by the packed number downwards
 abbrev pub internal_cmp : List ℕ → List ℕ → Ordering
-internal_cmp one other = place_cmp (user_key one) (packed one) (user_key other) (packed other)
+internal_cmp one other = position_cmp (user_key one) (packed one) (user_key other) (packed other)
 
 -- whether the internal key comes before a key and a sequence number
 abbrev pub is_key_before : List ℕ → ℕ → List ℕ → Bool
-is_key_before key number internal = is_lt (place_cmp (user_key internal) (number_of internal) key number)
+is_key_before key number internal = is_lt (position_cmp (user_key internal) (number_of internal) key number)
 
 -- ---- entries
 

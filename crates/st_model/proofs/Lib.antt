@@ -1,3 +1,0 @@
-pub mod Grow
-pub mod Places
-pub mod ReadAfter

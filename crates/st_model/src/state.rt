@@ -175,9 +175,10 @@ fn default_family(alloc: Global) -> Result<Family, AllocError>
 impl ModelState {
     ghost use Rattle.st_model.specs.State.{new_store};
 
-    /// The state at the opening of a new store: one family, `default`, and nothing in it.
-    pub fn new_store(alloc: Global) -> Result<ModelState, AllocError>
-        ensures { IfOk result (λ state. state ≡ new_store) }
+    /// The state at the opening of a new store, which takes files in behind or doesn't: one family, `default`, and
+    /// nothing in it.
+    pub fn new_store(alloc: Global, behind: bool) -> Result<ModelState, AllocError>
+        ensures { IfOk result (λ state. state ≡ new_store behind) }
     {
         let mut families = Vec::new(alloc);
         families.push((default_family(alloc)?, ModelFamily::new(alloc, 0)))?;
@@ -185,7 +186,7 @@ impl ModelState {
             place: 0,
             last: 0,
             charge: 0,
-            behind: false,
+            behind,
             families: List::from(families),
             next_family: 1,
             live: List::new(alloc),

@@ -1,9 +1,9 @@
 ghost use Rattle.std.specs.Prelude.{◌≡◌, Some, IsTrue, option_map};
 ghost use Rattle.st_base.specs.Order.{in_order, is_before};
-ghost use Rattle.st_base.specs.Rows.{entry_of, lower_place, mark_of, newest, newest_there};
+ghost use Rattle.st_base.specs.Rows.{entry_of, lower_index, mark_of, newest, newest_there};
 
 use crate::entry_arena::EntryArena;
-use st_base::{EntryRef, MarkRef, lower_place_parts_entries};
+use st_base::{EntryRef, MarkRef, lower_index_parts_entries};
 use std::cmp::Ordering;
 
 /// Whether the entry comes before the key and the number.
@@ -21,9 +21,9 @@ pub(crate) fn is_before(entry: EntryRef<'_>, key: &[u8], number: u64) -> bool
 /// are left at each step.
 pub(crate) fn lower_in(entries: &EntryArena, key: &[u8], number: u64) -> usize
     requires { IsTrue (in_order entries.now) }
-    ensures { result ≡ lower_place entries.now key.now number }
+    ensures { result ≡ lower_index entries.now key.now number }
 {
-    lower_place_parts_entries();
+    lower_index_parts_entries();
     let mut low = 0;
     let mut high = entries.len();
     while low < high {
@@ -57,7 +57,7 @@ pub(crate) fn newest_in<'a>(
     requires { IsTrue (in_order entries.now) }
     ensures { option_map (λ found. (found.0, mark_of found.1)) result ≡ newest entries.now key.now number }
 {
-    lower_place_parts_entries();
+    lower_index_parts_entries();
     let index = lower_in(entries, key, number);
     newest_there(key, entries.get(index))
 }

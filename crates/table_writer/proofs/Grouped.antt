@@ -10,7 +10,7 @@ use Rattle.std.proofs.lemmas.List.{append-nil, drop_at, length-append, take_at}
 use Rattle.std.proofs.lemmas.Nat.{from_le_bytes-to_le_bytes_8}
 use Rattle.st_base.proofs.Ordered.{places_total}
 use Rattle.st_base.specs.Bytes.{bytes_cmp}
-use Rattle.st_base.specs.Order.{comes_before, place_cmp, rises_behind}
+use Rattle.st_base.specs.Order.{comes_before, position_cmp, rises_behind}
 use Rattle.st_base.specs.Rows.{FitsMark}
 use Rattle.st_base.specs.declared.entry.Entry.{Entry}
 use Rattle.st_base.specs.declared.entry.Mark.{Mark}
@@ -139,7 +139,7 @@ chain p q r h g =
     let a = entry_of_pair p in
     let b = entry_of_pair q in
     let c = entry_of_pair r in
-    ap is_lt (places_total.trans (a.key, a.number) (b.key, b.number) (c.key, c.number) (is_less (place_cmp a.key a.number b.key b.number) h) (is_less (place_cmp b.key b.number c.key c.number) g))
+    ap is_lt (places_total.trans (a.key, a.number) (b.key, b.number) (c.key, c.number) (is_less (position_cmp a.key a.number b.key b.number) h) (is_less (position_cmp b.key b.number c.key c.number) g))
 
 -- ---- the last of some pairs
 

@@ -1,12 +1,12 @@
 use Rattle.std.proofs.Common.{◌-◌, ◌≤◌, length}
-use Rattle.st_base.specs.Rows.{lower_place}
+use Rattle.st_base.specs.Rows.{lower_index}
 use Rattle.st_table.proofs.find.lower_in.Given as goal
 
 abbrev pub invariant-loop-low : goal.invariant-loop-low
 invariant-loop-low l = record {
   top : l.high ≤ length l.entries;
-  low_is : l.low ≤ lower_place l.entries l.key l.number;
-  high_is : lower_place l.entries l.key l.number ≤ l.high;
+  low_is : l.low ≤ lower_index l.entries l.key l.number;
+  high_is : lower_index l.entries l.key l.number ≤ l.high;
 }
 
 abbrev pub decreases-loop-low : goal.decreases-loop-low

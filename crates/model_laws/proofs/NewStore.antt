@@ -1,0 +1,28 @@
+-- A new store is sound.
+use Rattle.std.proofs.Common.{◌≡◌, ℕ, ◌+◌, ◌<◌, ◌≤◌, Bool, true, List, [], ◌∷◌, length, get_or, refl, arith, AllPairs}
+use Rattle.st_base.specs.Bytes.{default_family}
+use Rattle.st_model.specs.declared.state.ModelFamily.{ModelFamily}
+use Rattle.st_model.specs.Sound.{IsSound}
+use Rattle.st_model.specs.State.{new_family, new_store}
+use Rattle.model_laws.specs.Claims.{NewIsSound}
+
+-- a list of one has no pairs
+no_pairs : {X : Type 0} (R : X → X → Type 0) (x : X) → AllPairs R (x ∷ [])
+no_pairs R x i j d lt within = absurd (let no_place : ⊥ = omega (arith, lt, within) in no_place)
+
+nothing : {X : Type 0} (R : X → X → Type 0) → AllPairs R []
+nothing R i j d lt within = absurd (let no_place : ⊥ = omega (arith, within) in no_place)
+
+pub new_is_sound : NewIsSound
+new_is_sound behind = record {
+  names = no_pairs _ (default_family, new_family 0);
+  bases = (nothing _, tt);
+  writes = (tt, tt);
+  live = tt;
+  snapshots = nothing _;
+  above = tt;
+  taken = tt;
+  ids = no_pairs _ (default_family, new_family 0);
+  next = (omega arith, tt);
+  unranged = λ without. (refl, tt);
+}
