@@ -14,7 +14,8 @@ use Rattle.st_model.specs.declared.state.ModelState.{ModelState}
 use Rattle.st_model.specs.State.{greatest_number, has_family}
 use Rattle.st_model.specs.Read.{read}
 use Rattle.st_model.specs.Apply.{op_family, write_charge}
-use Rattle.st_model.specs.Answer.{unknown_families, refused_if, place_spent, write_refusals, get_answer, found, first_or, read_in}
+use Rattle.st_model.specs.Answer.{unknown_families, refused_if, place_spent, write_refusals, first_or}
+use Rattle.st_model.specs.Reads.{get_answer, found, read_in}
 use Rattle.log_engine.specs.Op.{strangers}
 
 -- the state's families are `default` alone

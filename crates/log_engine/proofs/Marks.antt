@@ -21,7 +21,7 @@ use Rattle.st_base.specs.declared.entry.Mark.{Mark}
 use Rattle.st_base.proofs.Same.{same_is_eq, same_self, same_sym, same_true}
 use Rattle.st_model.specs.Contents.{is_kept, kept_marks, with_marks}
 use Rattle.st_model.specs.Read.{last_write}
-use Rattle.st_model.proofs.Places.{Each-map}
+use Rattle.base_laws.proofs.Lists.{each_as}
 use Rattle.log_engine.specs.Newest.{flat, present, shown}
 use Rattle.log_engine.specs.MarkStore.{AreRising, IsSorted}
 
@@ -83,7 +83,7 @@ below_set x k v (e ∷ m) h l = below_case x k v e m (bytes_cmp k e.0) h l (belo
 
 sorted_case : (k : List ℕ) (v : Mark) (e : List ℕ × Mark) (m : List (List ℕ × Mark)) (r : Ordering) → bytes_cmp k e.0 ≡ r → IsSorted (e ∷ m) → IsSorted (set_at m k v) → IsSorted (match_ordering r ((k, v) ∷ e ∷ m) ((e.0, v) ∷ m) (e ∷ set_at m k v))
 sorted_case k v e m Less is s rest =
-    ((is, Each-map (λ y. bytes_cmp e.0 y ≡ Less) (λ y. bytes_cmp k y ≡ Less) (λ y l. order.trans k e.0 y is l) (keys_of m) s.0), s)
+    ((is, each_as (λ y. bytes_cmp e.0 y ≡ Less) (λ y. bytes_cmp k y ≡ Less) (λ y l. order.trans k e.0 y is l) (keys_of m) s.0), s)
 sorted_case k v e m Equal is s rest = s
 sorted_case k v e m Greater is s rest = (below_set e.0 k v m s.0 (order.antisymm e.0 k ∙ ap ordering_reverse is), rest)
 
@@ -120,7 +120,7 @@ below_all q (e ∷ m) h = ap (λ r. cond (is_eq r) (Some e.1) (value_at m q)) h.
 
 -- a key below the first one has nothing
 below_first : (q : List ℕ) (e : List ℕ × Mark) (m : List (List ℕ × Mark)) → IsSorted (e ∷ m) → bytes_cmp q e.0 ≡ Less → value_at (e ∷ m) q ≡ None
-below_first q e m s l = below_all q (e ∷ m) (l, Each-map (λ y. bytes_cmp e.0 y ≡ Less) (λ y. bytes_cmp q y ≡ Less) (λ y k. order.trans q e.0 y l k) (keys_of m) s.0)
+below_first q e m s l = below_all q (e ∷ m) (l, each_as (λ y. bytes_cmp e.0 y ≡ Less) (λ y. bytes_cmp q y ≡ Less) (λ y k. order.trans q e.0 y l k) (keys_of m) s.0)
 
 -- and so has the first key behind the first pair
 past_first : {X : Type 0} (q : List ℕ) (e : List ℕ × X) (m : List (List ℕ × X)) → AreRising (keys_of (e ∷ m)) → is_eq (bytes_cmp q e.0) ≡ true → value_at m q ≡ None

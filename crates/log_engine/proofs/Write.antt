@@ -16,8 +16,8 @@ use Rattle.st_model.specs.Answer.{refused_if, place_spent, write_refusals}
 use Rattle.st_model.specs.Apply.{op_entry, op_family, op_key, op_mark, with_ops, with_write, write_charge}
 use Rattle.st_model.specs.Contents.{as_entry, contents, contents_of_family, kept_marks, newest_marks, sorted_ranges, with_marks}
 use Rattle.st_model.specs.State.{greatest_number}
-use Rattle.st_model.proofs.Places.{Each-append, Each-map}
-use Rattle.st_model.proofs.ReadAfter.{mark_after}
+use Rattle.base_laws.proofs.Lists.{each_as, each_join}
+use Rattle.model_laws.proofs.ReadAfter.{mark_after}
 use Rattle.log_recover.specs.Contents.{contents_of, logged_entry, written_marks}
 use Rattle.log_recover.specs.Opens.{first_log_fault, last_number}
 use Rattle.st_wal.specs.Batch.{Operation}
@@ -104,8 +104,8 @@ family_base last (op ∷ ops) family = family_base (last + 1) ops (with_write (o
 
 marks_one : (marks : List ℕ → Option Mark) (family : ModelFamily) (last : ℕ) (op : Op) → HasMarks marks family last → HasMarks (marks_after marks (logged_op op)) (with_write (op_entry (last + 1) op) family) (last + 1)
 marks_one marks family last op h = record {
-  numbers = Each-append (λ (write : Entry). write.number ≤ last + 1) family.writes (op_entry (last + 1) op ∷ [])
-      (Each-map (λ (write : Entry). write.number ≤ last) (λ (write : Entry). write.number ≤ last + 1) (λ write k. omega (arith, k)) family.writes h.numbers)
+  numbers = each_join (λ (write : Entry). write.number ≤ last + 1) family.writes (op_entry (last + 1) op ∷ [])
+      (each_as (λ (write : Entry). write.number ≤ last) (λ (write : Entry). write.number ≤ last + 1) (λ write k. omega (arith, k)) family.writes h.numbers)
       (omega arith, tt);
   newest = λ key. mark_after family last (op_entry (last + 1) op) key h.numbers refl ∙ ap (cond (same (op_key op) key) (Some (op_mark op))) (h.newest key);
 }

@@ -10,13 +10,14 @@ use Rattle.st_device.specs.Disk.{Image, DiskTold, Leaves, OnlyFile, Passes}
 use Rattle.st_model.specs.declared.change.Batch.{Batch}
 use Rattle.st_model.specs.declared.change.Op.{Op}
 use Rattle.st_model.specs.declared.refusal.Refusal.{Refusal}
-use Rattle.st_model.specs.declared.refusal.Refusal.TheVariants.{Stopped, UnknownFamily, NumbersSpent, StoreFull, DiskFault, OutOfMemory}
+use Rattle.st_model.specs.declared.refusal.Refusal.TheVariants.{Stopped, DiskFault, OutOfMemory}
+use Rattle.st_model.specs.declared.refusal.Refusal.TheVariants as refusal
 use Rattle.st_model.specs.declared.reply.Reply.TheVariants.{Refused}
 use Rattle.st_model.specs.declared.state.ModelState.{ModelState}
 use Rattle.st_model.specs.Answer.{write_refusals}
 use Rattle.st_model.specs.Apply.{op_key, with_ops, write_charge}
 use Rattle.st_model.specs.Contents.{contents}
-use Rattle.st_model.specs.Legal.{is_stop}
+use Rattle.st_model.specs.Causes.{is_stop}
 use Rattle.log_recover.specs.Contents.{contents_in, contents_of, written_marks}
 use Rattle.log_recover.specs.Opens.{first_log_fault, last_number, opens}
 use Rattle.log_recover.proofs.Store.{append_leaves, append_store, last_append, sound_append, store_opens}
@@ -45,12 +46,62 @@ rooms_logged newest (op ∷ ops) h = (h.0, rooms_logged newest ops h.1)
 
 -- the first refusal, which is no stop
 pub first_of : (refusals : List Refusal) (refusal : Refusal) → is_stop (Refused refusal) ≡ false → Some refusal ≡ slice_get refusals 0 → IsFirst refusals refusal
-first_of refusals (UnknownFamily name) none is = sym is
-first_of refusals NumbersSpent none is = sym is
-first_of refusals StoreFull none is = sym is
-first_of refusals OutOfMemory none is = tt
-first_of refusals Stopped none is = absurd (true≢false none)
-first_of refusals DiskFault none is = absurd (true≢false none)
+first_of refusals refusal.EmptyRequest none is = sym is
+first_of refusals (refusal.NoFiles a) none is = sym is
+first_of refusals (refusal.FamilyTwice a) none is = sym is
+first_of refusals refusal.TooManyFiles none is = sym is
+first_of refusals (refusal.FileMissing at) none is = sym is
+first_of refusals (refusal.InputFault at) none is = sym is
+first_of refusals (refusal.BadTable at fault) none is = sym is
+first_of refusals (refusal.NoEntry at) none is = sym is
+first_of refusals (refusal.FilesMeet at file) none is = sym is
+first_of refusals refusal.Stopped none is = absurd (true≢false none)
+first_of refusals (refusal.UnknownFamily name) none is = sym is
+first_of refusals (refusal.BehindNotEnabled a) none is = sym is
+first_of refusals (refusal.SnapshotsLive a number) none is = sym is
+first_of refusals (refusal.FlushNeeded at key) none is = sym is
+first_of refusals (refusal.BehindDoesNotFit at range) none is = sym is
+first_of refusals (refusal.NeedsSequence at why) none is = sym is
+first_of refusals (refusal.NotLastLevel at level why) none is = sym is
+first_of refusals refusal.NumbersSpent none is = sym is
+first_of refusals refusal.StoreFull none is = sym is
+first_of refusals refusal.DiskFault none is = absurd (true≢false none)
+first_of refusals (refusal.FamilyExists name) none is = sym is
+first_of refusals refusal.DefaultStays none is = sym is
+first_of refusals refusal.FamiliesFull none is = sym is
+first_of refusals refusal.SnapshotsFull none is = sym is
+first_of refusals (refusal.SnapshotGone id) none is = sym is
+first_of refusals refusal.OutOfMemory none is = tt
+
+-- a refusal that may be given first is want of memory, a stop, or the first of those that hold
+pub first_cases : (refusals : List Refusal) (refusal : Refusal) → IsFirst refusals refusal
+    → (refusal ≡ OutOfMemory) ⊎ ((refusal ≡ Stopped) ⊎ (((refusal ≡ DiskFault) × (slice_get refusals 0 ≡ None)) ⊎ (slice_get refusals 0 ≡ Some refusal)))
+first_cases refusals refusal.EmptyRequest first = inr (inr (inr first))
+first_cases refusals (refusal.NoFiles a) first = inr (inr (inr first))
+first_cases refusals (refusal.FamilyTwice a) first = inr (inr (inr first))
+first_cases refusals refusal.TooManyFiles first = inr (inr (inr first))
+first_cases refusals (refusal.FileMissing at) first = inr (inr (inr first))
+first_cases refusals (refusal.InputFault at) first = inr (inr (inr first))
+first_cases refusals (refusal.BadTable at fault) first = inr (inr (inr first))
+first_cases refusals (refusal.NoEntry at) first = inr (inr (inr first))
+first_cases refusals (refusal.FilesMeet at file) first = inr (inr (inr first))
+first_cases refusals refusal.Stopped first = inr (inl refl)
+first_cases refusals (refusal.UnknownFamily name) first = inr (inr (inr first))
+first_cases refusals (refusal.BehindNotEnabled a) first = inr (inr (inr first))
+first_cases refusals (refusal.SnapshotsLive a number) first = inr (inr (inr first))
+first_cases refusals (refusal.FlushNeeded at key) first = inr (inr (inr first))
+first_cases refusals (refusal.BehindDoesNotFit at range) first = inr (inr (inr first))
+first_cases refusals (refusal.NeedsSequence at why) first = inr (inr (inr first))
+first_cases refusals (refusal.NotLastLevel at level why) first = inr (inr (inr first))
+first_cases refusals refusal.NumbersSpent first = inr (inr (inr first))
+first_cases refusals refusal.StoreFull first = inr (inr (inr first))
+first_cases refusals refusal.DiskFault first = inr (inr (inl (refl, first)))
+first_cases refusals (refusal.FamilyExists name) first = inr (inr (inr first))
+first_cases refusals refusal.DefaultStays first = inr (inr (inr first))
+first_cases refusals refusal.FamiliesFull first = inr (inr (inr first))
+first_cases refusals refusal.SnapshotsFull first = inr (inr (inr first))
+first_cases refusals (refusal.SnapshotGone id) first = inr (inr (inr first))
+first_cases refusals refusal.OutOfMemory first = inl refl
 
 -- ---- a store that stands for the same
 

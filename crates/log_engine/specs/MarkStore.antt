@@ -7,7 +7,7 @@ use Rattle.st_base.specs.Bytes.{bytes_cmp, default_family}
 use Rattle.st_base.specs.Map.{value_at}
 use Rattle.st_base.specs.declared.entry.Mark.{Mark}
 use Rattle.st_model.specs.declared.refusal.Refusal.{Refusal}
-use Rattle.st_model.specs.declared.refusal.Refusal.TheVariants.{Stopped, UnknownFamily, NumbersSpent, StoreFull, DiskFault, OutOfMemory}
+use Rattle.st_model.specs.declared.refusal.Refusal.TheVariants.{Stopped, DiskFault, OutOfMemory}
 use Rattle.st_model.specs.declared.state.ModelFamily.{ModelFamily}
 use Rattle.st_model.specs.declared.state.ModelState.{ModelState}
 use Rattle.st_model.specs.Read.{mark_at}
@@ -72,9 +72,7 @@ pub record IsAdvanced (old new : MarkStore) (count sum : ℕ) : Type 0 where
 
 -- the first of the refusals that hold is this one, or none of them holds; a fault and `OutOfMemory` aren't among them
 abbrev pub IsFirst : List Refusal → Refusal → Type 0
-IsFirst refusals (UnknownFamily name) = slice_get refusals 0 ≡ Some (UnknownFamily name)
-IsFirst refusals NumbersSpent = slice_get refusals 0 ≡ Some NumbersSpent
-IsFirst refusals StoreFull = slice_get refusals 0 ≡ Some StoreFull
 IsFirst refusals DiskFault = slice_get refusals 0 ≡ None
-IsFirst refusals Stopped = Unit {0}
-IsFirst refusals OutOfMemory = Unit {0}
+IsFirst refusals Stopped = ⊤
+IsFirst refusals OutOfMemory = ⊤
+IsFirst refusals other = slice_get refusals 0 ≡ Some other

@@ -2,10 +2,11 @@ ghost use Rattle.std.specs.Prelude.{◌≡◌, ◌+◌, ◌≤◌, ◌<◌, ◌�
 ghost use Rattle.std.specs.List.{AllByRecursion as Each};
 ghost use Rattle.st_base.specs.Map.{value_at};
 ghost use Rattle.st_model.specs.declared.state.ModelState.{ModelState};
-ghost use Rattle.st_model.specs.Answer.{found, get_answer, unknown_families, write_refusals};
+ghost use Rattle.st_model.specs.Answer.{unknown_families, write_refusals};
+ghost use Rattle.st_model.specs.Reads.{found, get_answer};
 ghost use Rattle.st_base.specs.Entries.{add_charge};
 ghost use Rattle.st_model.specs.Apply.{op_key, write_charge};
-ghost use Rattle.st_model.specs.Legal.{is_stop};
+ghost use Rattle.st_model.specs.Causes.{is_stop};
 ghost use Rattle.st_model.specs.Contents.{opened};
 ghost use Rattle.log_recover.specs.Contents.{contents_of, known_of, written_marks};
 ghost use Rattle.log_recover.specs.Opens.{last_number};
