@@ -1,22 +1,27 @@
 -- What the engine answers is the model's reply, over plain variables.
-use Rattle.std.proofs.Common.{◌≡◌, ◌⊎◌, inl, inr, ⊎_elim, ℕ, ◌+◌, Bool, true, false, cond, nat_lt, nat_le, List, [], ◌∷◌, ◌++◌, map, length, Option, Some, None, slice_get, refl, sym, ◌∙◌, ap, subst, arith, true≢false}
+use Rattle.std.proofs.Common.{not, ◌≡◌, ◌⊎◌, inl, inr, ⊎_elim, ℕ, ◌+◌, Bool, true, false, cond, nat_lt, nat_le, List, [], ◌∷◌, ◌++◌, map, length, Option, Some, None, slice_get, refl, sym, ◌∙◌, ap, subst, arith, true≢false}
 use Rattle.std.specs.Prelude.{IsSome, Result, Ok, Err, IfOk}
 use Rattle.st_base.specs.Entries.{add_charge}
 use Rattle.st_device.specs.Disk.{Image, DiskTold, IsHonest, Leaves}
 use Rattle.st_model.specs.declared.change.Batch.{Batch}
 use Rattle.st_model.specs.declared.change.Op.{Op}
 use Rattle.st_model.specs.declared.command.Call.{Call}
+use Rattle.st_model.specs.declared.command.Command.{Command}
 use Rattle.st_model.specs.declared.command.Command.TheVariants.{Write, Get}
 use Rattle.st_model.specs.declared.refusal.Refusal.{Refusal}
 use Rattle.st_model.specs.declared.refusal.Refusal.TheVariants.{Stopped, UnknownFamily, NumbersSpent, StoreFull, DiskFault, OutOfMemory}
+use Rattle.st_model.specs.declared.refusal.Refusal.TheVariants as refused
 use Rattle.st_model.specs.declared.reply.Reply.{Reply}
-use Rattle.st_model.specs.declared.reply.Reply.TheVariants.{Written, Refused}
+use Rattle.st_model.specs.declared.reply.Reply.TheVariants.{Written, Long, Refused}
 use Rattle.st_model.specs.declared.state.ModelFamily.{ModelFamily}
 use Rattle.st_model.specs.declared.state.ModelState.{ModelState}
-use Rattle.st_model.specs.Answer.{first_or, found, get_answer, read_in, refused_if, write_refusals}
+use Rattle.st_model.specs.Answer.{first_or, refused_if, write_refusals}
+use Rattle.st_model.specs.Causes.{is_input_fault, is_stop}
+use Rattle.st_model.specs.Long.{is_long}
+use Rattle.st_model.specs.Reads.{found, get_answer, read_in}
 use Rattle.st_model.specs.Apply.{op_family, write_charge}
 use Rattle.st_model.specs.History.{after_call, is_change}
-use Rattle.st_model.specs.Legal.{after, is_stop}
+use Rattle.st_model.specs.Step.{after}
 use Rattle.st_model.specs.Reply.{IsOrStops}
 use Rattle.st_model.specs.State.{greatest_number}
 use Rattle.log_engine.specs.Engine.{OpensTo, state_written}
@@ -25,8 +30,9 @@ use Rattle.log_engine.specs.MarkStore.{IsFirst, StandsForState}
 use Rattle.log_engine.specs.declared.store.MarkStore.{MarkStore}
 use Rattle.log_engine.proofs.Default.{unknown_is}
 use Rattle.log_engine.proofs.Write.{accepted_known}
+use Rattle.log_engine.proofs.Writing.{first_cases}
 use Rattle.ingest_app.specs.Answer.{EngineSteps, answered_call}
-use Rattle.ingest_app.specs.Op.{refused_family, refused_name}
+use Rattle.ingest_app.specs.Op.{is_served, refused_family, refused_name}
 use Rattle.ingest_app.specs.declared.answer.Answer.{Answer}
 
 -- ---- the first refusal
@@ -41,21 +47,21 @@ none_refused (refusal ∷ refusals) reply e = cc
 
 -- a refusal that is no stop and no want of memory is the answer
 pub first_reply : (refusals : List Refusal) (refusal : Refusal) (reply : Reply) → IsFirst refusals refusal → is_stop (Refused refusal) ≡ false → (refusal ≡ OutOfMemory → ⊥) → Refused refusal ≡ first_or refusals reply
-first_reply refusals (UnknownFamily name) reply is none memory = first_refused refusals (UnknownFamily name) reply is
-first_reply refusals NumbersSpent reply is none memory = first_refused refusals NumbersSpent reply is
-first_reply refusals StoreFull reply is none memory = first_refused refusals StoreFull reply is
-first_reply refusals OutOfMemory reply is none memory = absurd (memory refl)
-first_reply refusals Stopped reply is none memory = absurd (true≢false none)
-first_reply refusals DiskFault reply is none memory = absurd (true≢false none)
+first_reply refusals refusal reply is none memory = elim (first_cases refusals refusal is) [
+  | inl out ↦ absurd (memory out)
+  | inr (inl stopped) ↦ absurd (true≢false (sym (ap (λ r. is_stop (Refused r)) stopped) ∙ none))
+  | inr (inr (inl fault)) ↦ absurd (true≢false (sym (ap (λ r. is_stop (Refused r)) fault.0) ∙ none))
+  | inr (inr (inr first)) ↦ first_refused refusals refusal reply first
+]
 
 -- any refusal of a write may be answered
 pub refused_reply : (refusals : List Refusal) (refusal : Refusal) (reply : Reply) → IsFirst refusals refusal → (refusal ≡ OutOfMemory → ⊥) → IsOrStops (Refused refusal) (first_or refusals reply)
-refused_reply refusals (UnknownFamily name) reply is memory = inl (first_refused refusals (UnknownFamily name) reply is)
-refused_reply refusals NumbersSpent reply is memory = inl (first_refused refusals NumbersSpent reply is)
-refused_reply refusals StoreFull reply is memory = inl (first_refused refusals StoreFull reply is)
-refused_reply refusals OutOfMemory reply is memory = absurd (memory refl)
-refused_reply refusals Stopped reply is memory = inr (inl refl)
-refused_reply refusals DiskFault reply is memory = inr (inr refl)
+refused_reply refusals refusal reply is memory = elim (first_cases refusals refusal is) [
+  | inl out ↦ absurd (memory out)
+  | inr (inl stopped) ↦ inr (inl (ap Refused stopped))
+  | inr (inr (inl fault)) ↦ inr (inr (ap Refused fault.0))
+  | inr (inr (inr first)) ↦ inl (first_refused refusals refusal reply first)
+]
 
 -- ---- the family that a refusal names
 
@@ -70,38 +76,49 @@ get_unknown state family name key reply families is =
     ap refused_family (is ∙ ap (λ us. first_or us (found (read_in state state.last name key))) (unknown_is state family (name ∷ []) (record { families = families })))
     ∙ get_names (strange_names (name ∷ [])) (read_in state state.last name key)
 
--- a read is no change and no stop
+-- a read is no change and no stop, and it is served
 pub read_is : (refusals : List (List ℕ)) (value : Option (List ℕ)) → (is_change (first_or (map UnknownFamily refusals) (found value)) ≡ false) × (is_stop (first_or (map UnknownFamily refusals) (found value)) ≡ false)
-read_is [] None = (refl, refl)
-read_is [] (Some value) = (refl, refl)
-read_is (name ∷ names) value = (refl, refl)
+    × (is_served (first_or (map UnknownFamily refusals) (found value)) ≡ true)
+read_is [] None = (refl, refl, refl)
+read_is [] (Some value) = (refl, refl, refl)
+read_is (name ∷ names) value = (refl, refl, refl)
 
--- of a write: the tests that aren't on families name none
-no_family : (p q r : Bool) (name : List ℕ) → slice_get (refused_if p NumbersSpent ++ refused_if q NumbersSpent ++ refused_if r StoreFull) 0 ≡ Some (UnknownFamily name) → ⊥
-no_family true q r name e = cc e
-no_family false true r name e = cc e
-no_family false false true name e = cc e
-no_family false false false name e = cc e
+-- what is told of a refusal of a write: whether it names the first of these families, and that no input failed
+TellsOf : List (List ℕ) → Refusal → Type 0
+TellsOf names refusal = ((Refused refusal ≡ Refused Stopped) ⊎ (refused_name refusal ≡ slice_get names 0)) × (is_input_fault (Refused refusal) ≡ false)
 
-names_case : (names : List (List ℕ)) (p q r : Bool) (refusal : Refusal) → IsFirst (map UnknownFamily names ++ refused_if p NumbersSpent ++ refused_if q NumbersSpent ++ refused_if r StoreFull) refusal → (refusal ≡ OutOfMemory → ⊥) → (Refused refusal ≡ Refused Stopped) ⊎ (refused_name refusal ≡ slice_get names 0)
-names_case names p q r Stopped is memory = inl refl
-names_case names p q r OutOfMemory is memory = absurd (memory refl)
-names_case [] p q r (UnknownFamily name) is memory = absurd (no_family p q r name is)
-names_case [] p q r NumbersSpent is memory = inr refl
-names_case [] p q r StoreFull is memory = inr refl
-names_case [] p q r DiskFault is memory = inr refl
-names_case (first ∷ names) p q r (UnknownFamily name) is memory = let same_name : first ≡ name = cc in inr (ap (λ n. Some n) (sym same_name))
-names_case (first ∷ names) p q r NumbersSpent is memory = absurd (cc is)
-names_case (first ∷ names) p q r StoreFull is memory = absurd (cc is)
-names_case (first ∷ names) p q r DiskFault is memory = absurd (cc is)
+-- the tests that aren't on families name none
+other_tells : (p q r : Bool) (refusal : Refusal) → slice_get (refused_if p NumbersSpent ++ refused_if q NumbersSpent ++ refused_if r StoreFull) 0 ≡ Some refusal → TellsOf [] refusal
+other_tells true q r refusal e = let is : NumbersSpent ≡ refusal = cc in subst (TellsOf []) is (inr refl, refl)
+other_tells false true r refusal e = let is : NumbersSpent ≡ refusal = cc in subst (TellsOf []) is (inr refl, refl)
+other_tells false false true refusal e = let is : StoreFull ≡ refusal = cc in subst (TellsOf []) is (inr refl, refl)
+other_tells false false false refusal e = absurd cc
+
+first_tells : (names : List (List ℕ)) (p q r : Bool) (refusal : Refusal) → slice_get (map UnknownFamily names ++ refused_if p NumbersSpent ++ refused_if q NumbersSpent ++ refused_if r StoreFull) 0 ≡ Some refusal → TellsOf names refusal
+first_tells [] p q r refusal e = other_tells p q r refusal e
+first_tells (name ∷ names) p q r refusal e = let is : UnknownFamily name ≡ refusal = cc in subst (TellsOf (name ∷ names)) is (inr refl, refl)
+
+fault_tells : (names : List (List ℕ)) (others : List Refusal) → slice_get (map UnknownFamily names ++ others) 0 ≡ None → TellsOf names DiskFault
+fault_tells [] others none = (inr refl, refl)
+fault_tells (name ∷ names) others none = absurd (cc none)
+
+write_tells : (names : List (List ℕ)) (p q r : Bool) (refusal : Refusal) → IsFirst (map UnknownFamily names ++ refused_if p NumbersSpent ++ refused_if q NumbersSpent ++ refused_if r StoreFull) refusal → (refusal ≡ OutOfMemory → ⊥) → TellsOf names refusal
+write_tells names p q r refusal is memory =
+    let others : List Refusal = refused_if p NumbersSpent ++ refused_if q NumbersSpent ++ refused_if r StoreFull in
+    elim (first_cases (map UnknownFamily names ++ refused_if p NumbersSpent ++ refused_if q NumbersSpent ++ refused_if r StoreFull) refusal is) [
+      | inl out ↦ absurd (memory out)
+      | inr (inl stopped) ↦ subst (TellsOf names) (sym stopped) (inl refl, refl)
+      | inr (inr (inl fault)) ↦ subst (TellsOf names) (sym fault.0) (fault_tells names others fault.1)
+      | inr (inr (inr first)) ↦ first_tells names p q r refusal first
+    ]
 
 pub write_unknown : (state : ModelState) (family : ModelFamily) (capacity : ℕ) (ops : List Op) (refusal : Refusal) → state.families ≡ (Rattle.st_base.specs.Bytes.default_family, family) ∷ [] → IsFirst (write_refusals state capacity ops) refusal → (refusal ≡ OutOfMemory → ⊥)
-    → (Refused refusal ≡ Refused Stopped) ⊎ (refused_name refusal ≡ slice_get (strangers ops) 0)
+    → ((Refused refusal ≡ Refused Stopped) ⊎ (refused_name refusal ≡ slice_get (strangers ops) 0)) × (is_input_fault (Refused refusal) ≡ false)
 write_unknown state family capacity ops refusal families is memory =
     let a : Bool = nat_lt greatest_number (state.last + length ops) in
     let b : Bool = nat_le greatest_number state.place in
     let c : Bool = nat_lt capacity (add_charge state.charge (write_charge ops)) in
-    names_case (strangers ops) a b c refusal
+    write_tells (strangers ops) a b c refusal
     (subst (λ us. IsFirst (us ++ refused_if a NumbersSpent ++ refused_if b NumbersSpent ++ refused_if c StoreFull) refusal) (unknown_is state family (map op_family ops) (record { families = families })) is) memory
 
 -- ---- whether the engine is stopped
@@ -121,14 +138,12 @@ pub accepted_steps : (old new : MarkStore) (was is : Option ℕ) (before after_i
     → (IsHonest before → Leaves (λ image. OpensTo state image ⊎ OpensTo (state_written state batch) image) before after_it) → (IsHonest before → (image : Image) → after_it.now image → OpensTo (state_written state batch) image)
     → EngineSteps old new was is before after_it state (answered_call (Write batch) (record { place = place; reply = Written last }))
 accepted_steps old new was is before after_it state batch place last h running unrefused places lasts stands crash whole = record {
-  step = record {
-    grows = refl;
-    place = places;
-    answered = inl (ap Written lasts ∙ none_refused (write_refusals state old.capacity batch.ops) (Written (state.last + length batch.ops)) unrefused);
-  };
+  place = places;
+  answered = λ _. inl (ap Written lasts ∙ none_refused (write_refusals state old.capacity batch.ops) (Written (state.last + length batch.ops)) unrefused);
+  served = refl;
   change = λ _. running;
   still = λ _. (running, refl);
-  unknown = inr (sym (ap (λ names. slice_get names 0) (accepted_known state h.family old.capacity batch.ops (record { families = h.families }) unrefused)));
+  unknown = λ _. inr (sym (ap (λ names. slice_get names 0) (accepted_known state h.family old.capacity batch.ops (record { families = h.families }) unrefused)));
   stands = stands;
   crash = λ honest _ image left. ⊎_elim (λ (b : OpensTo state image). inl b) (λ (a : OpensTo (state_written state batch) image). inr (inl a)) (crash honest image left);
   whole = λ honest _. whole honest;
@@ -140,14 +155,12 @@ pub refused_steps : (old new : MarkStore) (was is : Option ℕ) (before after_it
     → (IsHonest before → was ≡ None → Leaves (λ image. OpensTo state image ⊎ ((refusal ≡ DiskFault) × OpensTo (state_written state batch) image)) before after_it) → (IsHonest before → is ≡ None → (image : Image) → after_it.now image → OpensTo state image)
     → EngineSteps old new was is before after_it state (answered_call (Write batch) (record { place = place; reply = Refused refusal }))
 refused_steps old new was is before after_it state batch place refusal h stands places memory first still crash whole = record {
-  step = record {
-    grows = omega arith;
-    place = places ∙ sym stands.place;
-    answered = refused_reply (write_refusals state old.capacity batch.ops) refusal (Written (state.last + length batch.ops)) first memory;
-  };
+  place = let e : place ≡ state.place = places ∙ sym stands.place in omega (arith, e);
+  answered = λ _. refused_reply (write_refusals state old.capacity batch.ops) refusal (Written (state.last + length batch.ops)) first memory;
+  served = ap not (write_unknown state h.family old.capacity batch.ops refusal h.families first memory).1;
   change = λ e. absurd (true≢false (sym e));
   still = still;
-  unknown = write_unknown state h.family old.capacity batch.ops refusal h.families first memory;
+  unknown = λ _. (write_unknown state h.family old.capacity batch.ops refusal h.families first memory).0;
   stands = stands;
   crash = λ honest running image left. ⊎_elim (λ (b : OpensTo state image). inl b) (λ (a : (refusal ≡ DiskFault) × OpensTo (state_written state batch) image). inr (inr (ap Refused a.0, a.1))) (crash honest running image left);
   whole = whole;
@@ -169,18 +182,36 @@ get_steps store was before state family key answer h place is crash whole =
     let nil : ℕ = 0 in
     let grows : state.place ≡ state.place + cond (is_change answer.reply) one nil = ap (λ n. n) (omega arith) ∙ sym (ap (λ b. state.place + cond b one nil) change) in
     record {
-      step = record {
-        grows = ap (λ (s : ModelState). s.place) stays ∙ grows;
-        place = place ∙ sym (ap (λ (s : ModelState). s.place) stays);
-        answered = is;
-      };
+      place = place ∙ grows;
+      answered = λ _. is;
+      served = ap is_served same_reply ∙ kind.2;
       change = λ e. absurd (true≢false (sym e ∙ change));
       still = λ none. (none, stop);
-      unknown = inr (get_unknown state h.family family key answer.reply h.families is);
+      unknown = λ _. inr (get_unknown state h.family family key answer.reply h.families is);
       stands = subst (λ (s : ModelState). StandsForState store s) (sym stays) h;
       crash = λ honest running image left. inl (crash honest running image left);
       whole = λ honest running image now. subst (λ (s : ModelState). OpensTo s image) (sym stays) (whole honest running image now);
     }
+
+-- a read of a transcript that is too long
+pub long_steps : (store : MarkStore) (was : Option ℕ) (before : DiskTold) (state : ModelState) (command : Command) (place : ℕ) → StandsForState store state → place ≡ store.place
+    → (IsHonest before → was ≡ None → Leaves (OpensTo state) before before) → (IsHonest before → was ≡ None → (image : Image) → before.now image → OpensTo state image)
+    → EngineSteps store store was was before before state (answered_call command (record { place = place; reply = Long }))
+long_steps store was before state command place h is crash whole = record {
+  place = let e : place ≡ state.place = is ∙ sym h.place in omega (arith, e);
+  answered = λ tells. absurd (true≢false (sym tells));
+  served = refl;
+  change = λ e. absurd (true≢false (sym e));
+  still = λ none. (none, refl);
+  unknown = λ tells. absurd (true≢false (sym tells));
+  stands = h;
+  crash = λ honest running image left. inl (crash honest running image left);
+  whole = whole;
+}
+
+-- an engine's answer is cut nowhere, where the transcript isn't too long for the command
+pub cut_of : (reply : Reply) (is : Bool) → is_long reply ≡ false → is ≡ false → is_long reply ≡ is
+cut_of reply is short none = short ∙ sym none
 
 pub if_ok_map : {T E : Type 0} (P Q : T → Type 0) (r : Result T E) → ((x : T) → P x → Q x) → IfOk r P → IfOk r Q
 if_ok_map P Q (Ok x) f p = f x p
@@ -188,18 +219,58 @@ if_ok_map P Q (Err e) f p = tt
 
 -- a refusal is that of a disk fault, or not
 pub fault_or : (refusal : Refusal) → (refusal ≡ DiskFault) ⊎ (refusal ≡ DiskFault → ⊥)
-fault_or DiskFault = inl refl
-fault_or Stopped = inr (λ e. cc e)
-fault_or (UnknownFamily name) = inr (λ e. cc e)
-fault_or NumbersSpent = inr (λ e. cc e)
-fault_or StoreFull = inr (λ e. cc e)
-fault_or OutOfMemory = inr (λ e. cc e)
+fault_or refused.EmptyRequest = inr (λ e. cc e)
+fault_or (refused.NoFiles a) = inr (λ e. cc e)
+fault_or (refused.FamilyTwice a) = inr (λ e. cc e)
+fault_or refused.TooManyFiles = inr (λ e. cc e)
+fault_or (refused.FileMissing at) = inr (λ e. cc e)
+fault_or (refused.InputFault at) = inr (λ e. cc e)
+fault_or (refused.BadTable at fault) = inr (λ e. cc e)
+fault_or (refused.NoEntry at) = inr (λ e. cc e)
+fault_or (refused.FilesMeet at file) = inr (λ e. cc e)
+fault_or refused.Stopped = inr (λ e. cc e)
+fault_or (refused.UnknownFamily name) = inr (λ e. cc e)
+fault_or (refused.BehindNotEnabled a) = inr (λ e. cc e)
+fault_or (refused.SnapshotsLive a number) = inr (λ e. cc e)
+fault_or (refused.FlushNeeded at key) = inr (λ e. cc e)
+fault_or (refused.BehindDoesNotFit at range) = inr (λ e. cc e)
+fault_or (refused.NeedsSequence at why) = inr (λ e. cc e)
+fault_or (refused.NotLastLevel at level why) = inr (λ e. cc e)
+fault_or refused.NumbersSpent = inr (λ e. cc e)
+fault_or refused.StoreFull = inr (λ e. cc e)
+fault_or refused.DiskFault = inl refl
+fault_or (refused.FamilyExists name) = inr (λ e. cc e)
+fault_or refused.DefaultStays = inr (λ e. cc e)
+fault_or refused.FamiliesFull = inr (λ e. cc e)
+fault_or refused.SnapshotsFull = inr (λ e. cc e)
+fault_or (refused.SnapshotGone id) = inr (λ e. cc e)
+fault_or refused.OutOfMemory = inr (λ e. cc e)
 
 -- one that isn't, of a store that isn't stopped, is no stop
 pub no_stop_of : (refusal : Refusal) → (refusal ≡ DiskFault → ⊥) → (refusal ≡ Stopped → ⊥) → is_stop (Refused refusal) ≡ false
-no_stop_of DiskFault fault stopped = absurd (fault refl)
-no_stop_of Stopped fault stopped = absurd (stopped refl)
-no_stop_of (UnknownFamily name) fault stopped = refl
-no_stop_of NumbersSpent fault stopped = refl
-no_stop_of StoreFull fault stopped = refl
-no_stop_of OutOfMemory fault stopped = refl
+no_stop_of refused.EmptyRequest fault stopped = refl
+no_stop_of (refused.NoFiles a) fault stopped = refl
+no_stop_of (refused.FamilyTwice a) fault stopped = refl
+no_stop_of refused.TooManyFiles fault stopped = refl
+no_stop_of (refused.FileMissing at) fault stopped = refl
+no_stop_of (refused.InputFault at) fault stopped = refl
+no_stop_of (refused.BadTable at fault) fault stopped = refl
+no_stop_of (refused.NoEntry at) fault stopped = refl
+no_stop_of (refused.FilesMeet at file) fault stopped = refl
+no_stop_of refused.Stopped fault stopped = absurd (stopped refl)
+no_stop_of (refused.UnknownFamily name) fault stopped = refl
+no_stop_of (refused.BehindNotEnabled a) fault stopped = refl
+no_stop_of (refused.SnapshotsLive a number) fault stopped = refl
+no_stop_of (refused.FlushNeeded at key) fault stopped = refl
+no_stop_of (refused.BehindDoesNotFit at range) fault stopped = refl
+no_stop_of (refused.NeedsSequence at why) fault stopped = refl
+no_stop_of (refused.NotLastLevel at level why) fault stopped = refl
+no_stop_of refused.NumbersSpent fault stopped = refl
+no_stop_of refused.StoreFull fault stopped = refl
+no_stop_of refused.DiskFault fault stopped = absurd (fault refl)
+no_stop_of (refused.FamilyExists name) fault stopped = refl
+no_stop_of refused.DefaultStays fault stopped = refl
+no_stop_of refused.FamiliesFull fault stopped = refl
+no_stop_of refused.SnapshotsFull fault stopped = refl
+no_stop_of (refused.SnapshotGone id) fault stopped = refl
+no_stop_of refused.OutOfMemory fault stopped = refl

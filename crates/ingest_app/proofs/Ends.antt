@@ -9,12 +9,12 @@ use Rattle.st_stream.specs.Sink.{SinkTold}
 use Rattle.st_wal.specs.declared.logged.Logged.{Logged}
 use Rattle.cmd_text.specs.declared.script.Numbered.{Numbered}
 use Rattle.ingest_app.specs.Client.{client_script}
-use Rattle.ingest_app.specs.Run.{client_of, Ended, EndsNamed, EndsClient, EndsScript, Faulted, IsOfFile, IsScript, IsFaulty, IsDamaged, Writes, HasScript, HasFault, HasStore}
+use Rattle.ingest_app.specs.Run.{client_of, Ended, EndsNamed, EndsClient, EndsScripts, Faulted, IsOfFile, IsScript, IsFaulty, IsDamaged, one_client, Writes, HasScript, HasFault, HasStore}
 use Rattle.ingest_app.specs.declared.status.Status.{Status}
 use Rattle.ingest_app.specs.declared.status.Status.TheVariants.{Done, Refused, Memory, InputFault, DiskFault, SinkFault, Script, Damaged, NotYet}
 
 -- a run of a script ends as a run of its file
-pub client_of_script : (file : Option (List ℕ)) (name : List ℕ) (commands : List Numbered) (before after : DiskTold) (status : Status) (text : List ℕ) → client_script file ≡ Ok commands → EndsScript commands name before after status text → EndsClient file name before after status text
+pub client_of_script : (file : Option (List ℕ)) (name : List ℕ) (commands : List Numbered) (before after : DiskTold) (status : Status) (text : List ℕ) → client_script file ≡ Ok commands → EndsScripts (one_client name commands) before after status text → EndsClient file name before after status text
 client_of_script file name commands before after Done text read h = record { commands = commands; read = read; ends = h }
 client_of_script file name commands before after DiskFault text read h = record { commands = commands; read = read; ends = h }
 client_of_script file name commands before after Damaged text read h = record { commands = commands; read = read; ends = h }

@@ -13,7 +13,7 @@ use Rattle.build_text.specs.Words.{bytes_of_word, three_words, two_words, words}
 use Rattle.cmd_text.specs.Commands.{within, family_and_key, family_of_word, key_of_word, value_of_word, put_of, del_of, get_of, single, command_named, command_of_words, command_of}
 use Rattle.cmd_text.specs.Script.{command_behind, commands_of, command_lines, in_front, script_of}
 use Rattle.log_engine.specs.Op.{IsWrite}
-use Rattle.ingest_app.specs.Op.{FitsLimits}
+use Rattle.ingest_app.specs.Op.{IsServed}
 
 -- what stands behind a step that was found
 step : {A B : Type 0} (found : Option A) (next : A → Option B) (b : B) → option_and_then next found ≡ Some b → (a : A) × (found ≡ Some a) × (next a ≡ Some b)
@@ -60,54 +60,54 @@ del_fits arguments op is =
     let same_op : Del named.0.0 named.0.1 ≡ op = cc named.2 in
     subst (λ o. IsWrite (o ∷ [])) same_op (del_write named.0.0 named.0.1 (subst (λ k. length k ≤ 65535) same_key (key_limit two.0.1 key.0 key.1)))
 
-get_fits : (arguments : List (List ℕ)) (command : Command) → get_of arguments ≡ Some command → FitsLimits command
+get_fits : (arguments : List (List ℕ)) (command : Command) → get_of arguments ≡ Some command → IsServed command
 unfolding get_of
 get_fits arguments command is =
     let named = step (family_and_key arguments) _ command is in
     let same_command : Get named.0.0 named.0.1 ≡ command = cc named.2 in
-    subst FitsLimits same_command tt
+    subst IsServed same_command tt
 
-single_fits : (found : Option Op) (command : Command) → ((op : Op) → found ≡ Some op → IsWrite (op ∷ [])) → option_and_then (λ op. Some (single op)) found ≡ Some command → FitsLimits command
+single_fits : (found : Option Op) (command : Command) → ((op : Op) → found ≡ Some op → IsWrite (op ∷ [])) → option_and_then (λ op. Some (single op)) found ≡ Some command → IsServed command
 single_fits found command fits is =
     let op = step found (λ o. Some (single o)) command is in
     let same_command : single op.0 ≡ command = cc op.2 in
-    subst FitsLimits same_command (fits op.0 op.1)
+    subst IsServed same_command (fits op.0 op.1)
 
-named_fits : (name : List ℕ) (arguments : List (List ℕ)) (command : Command) → command_named name arguments ≡ Some command → FitsLimits command
+named_fits : (name : List ℕ) (arguments : List (List ℕ)) (command : Command) → command_named name arguments ≡ Some command → IsServed command
 unfolding command_named
 named_fits name arguments command is = go (same name (codes "put")) (same name (codes "del")) (same name (codes "get")) is
   where
-    go : (p d g : Bool) → cond p (option_and_then (λ op. Some (single op)) (put_of arguments)) (cond d (option_and_then (λ op. Some (single op)) (del_of arguments)) (cond g (get_of arguments) None)) ≡ Some command → FitsLimits command
+    go : (p d g : Bool) → cond p (option_and_then (λ op. Some (single op)) (put_of arguments)) (cond d (option_and_then (λ op. Some (single op)) (del_of arguments)) (cond g (get_of arguments) None)) ≡ Some command → IsServed command
     go true d g e = single_fits (put_of arguments) command (put_fits arguments) e
     go false true g e = single_fits (del_of arguments) command (del_fits arguments) e
     go false false true e = get_fits arguments command e
     go false false false e = absurd (cc e)
 
-words_fit : (parts : List (List ℕ)) (command : Command) → command_of_words parts ≡ Some command → FitsLimits command
+words_fit : (parts : List (List ℕ)) (command : Command) → command_of_words parts ≡ Some command → IsServed command
 words_fit [] command is = absurd (cc is)
 words_fit (name ∷ arguments) command is = named_fits name arguments command is
 
-behind_fits : (before : ℕ) (line : List ℕ) (command : Command) → command_behind before line ≡ Some command → FitsLimits command
+behind_fits : (before : ℕ) (line : List ℕ) (command : Command) → command_behind before line ≡ Some command → IsServed command
 behind_fits before line command is = go (nat_lt before 20000) is
   where
-    go : (b : Bool) → cond b (command_of line) None ≡ Some command → FitsLimits command
+    go : (b : Bool) → cond b (command_of line) None ≡ Some command → IsServed command
     go true e = words_fit (words line) command e
     go false e = absurd (cc e)
 
-front_fits : (number : ℕ) (found : Option Command) (others : Result (List Numbered) ℕ) (commands : List Numbered) → ((command : Command) → found ≡ Some command → FitsLimits command) → ((rest : List Numbered) → others ≡ Ok rest → Each (λ (numbered : Numbered). FitsLimits numbered.command) rest)
-    → in_front number found others ≡ Ok commands → Each (λ (numbered : Numbered). FitsLimits numbered.command) commands
+front_fits : (number : ℕ) (found : Option Command) (others : Result (List Numbered) ℕ) (commands : List Numbered) → ((command : Command) → found ≡ Some command → IsServed command) → ((rest : List Numbered) → others ≡ Ok rest → Each (λ (numbered : Numbered). IsServed numbered.command) rest)
+    → in_front number found others ≡ Ok commands → Each (λ (numbered : Numbered). IsServed numbered.command) commands
 front_fits number None others commands first rest is = absurd (cc is)
 front_fits number (Some command) (Err fault) commands first rest is = absurd (cc is)
 front_fits number (Some command) (Ok more) commands first rest is =
     let numbered : Numbered = record { line = number; command = command } in
     let all : numbered ∷ more ≡ commands = cc is in
-    subst (λ l. Each (λ (n : Numbered). FitsLimits n.command) l) all (first command refl, rest more refl)
+    subst (λ l. Each (λ (n : Numbered). IsServed n.command) l) all (first command refl, rest more refl)
 
-lines_fit : (before : ℕ) (lines : List (ℕ × List ℕ)) (commands : List Numbered) → commands_of before lines ≡ Ok commands → Each (λ (numbered : Numbered). FitsLimits numbered.command) commands
-lines_fit before [] commands is = let none : [] ≡ commands = cc is in subst (λ l. Each (λ (n : Numbered). FitsLimits n.command) l) none tt
+lines_fit : (before : ℕ) (lines : List (ℕ × List ℕ)) (commands : List Numbered) → commands_of before lines ≡ Ok commands → Each (λ (numbered : Numbered). IsServed numbered.command) commands
+lines_fit before [] commands is = let none : [] ≡ commands = cc is in subst (λ l. Each (λ (n : Numbered). IsServed n.command) l) none tt
 lines_fit before (line ∷ lines) commands is =
     front_fits line.0 (command_behind before line.1) (commands_of (before + 1) lines) commands (λ command e. behind_fits before line.1 command e) (λ rest e. lines_fit (before + 1) lines rest e) is
 
-pub script_fits : (text : List ℕ) (commands : List Numbered) → script_of text ≡ Ok commands → Each (λ (numbered : Numbered). FitsLimits numbered.command) commands
+pub script_fits : (text : List ℕ) (commands : List Numbered) → script_of text ≡ Ok commands → Each (λ (numbered : Numbered). IsServed numbered.command) commands
 unfolding script_of
 script_fits text commands is = lines_fit 0 (command_lines text) commands is

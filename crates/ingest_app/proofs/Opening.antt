@@ -9,16 +9,14 @@ use Rattle.log_engine.proofs.Writing.{in_image}
 use Rattle.st_model.specs.declared.command.Call.{Call}
 use Rattle.st_model.specs.declared.state.ModelState.{ModelState}
 use Rattle.st_model.specs.Contents.{as_entry, contents, is_kept, kept_marks, opened}
-use Rattle.st_model.specs.History.{accepted_calls, after_call}
+use Rattle.st_model.specs.History.{accepted_calls, after_call, state_at}
 use Rattle.log_recover.specs.Contents.{contents_of, known_of, written_marks}
 use Rattle.log_recover.specs.Opens.{IsDamageOf, last_number, opens}
 use Rattle.log_recover.specs.declared.fault.OpenFault.{OpenFault}
 use Rattle.log_recover.specs.declared.fault.OpenFault.TheVariants.{Damaged as DamagedFault, DiskFault as DiskFailed, OutOfMemory}
 use Rattle.st_wal.specs.declared.logged.Logged.{Logged}
-use Rattle.cmd_text.specs.declared.script.Numbered.{Numbered}
-use Rattle.ingest_app.specs.Client.{EndsAnswered, AreCommandsAnswered, IsRun, opening_of}
-use Rattle.ingest_app.specs.Crash.{state_after}
-use Rattle.ingest_app.specs.Run.{EndsOpening, EndsScript, StaysAsRead}
+use Rattle.ingest_app.specs.Client.{ClientScript, EndsAnswered, AreClientsAnswered, IsRun, opening_of}
+use Rattle.ingest_app.specs.Run.{EndsOpening, EndsScripts, StaysAsRead}
 use Rattle.ingest_app.specs.declared.status.Status.{Status}
 use Rattle.ingest_app.specs.declared.status.Status.TheVariants.{Done, Refused, Memory, InputFault, DiskFault, SinkFault, Script, Damaged, NotYet}
 
@@ -44,9 +42,9 @@ opened_contents behind ops =
     λ i. record { last = last_number 0 ops; behind = behind; families = record { id = 0; name = default_family; marks = map as_entry (again i); ranges = [] } ∷ [] }
 
 -- an image that has what was read opens to the state before the first change
-at_first : (ops : List Logged) (calls : List Call) (image : Image) → opens image ≡ Ok ops → OpensTo (state_after (opening_of ops) calls 0) image
-at_first ops calls image is =
-    let none : opening_of ops ≡ state_after (opening_of ops) calls 0 = ap (fold after_call (opening_of ops)) (sym (take_none (accepted_calls (calls ∷ [])))) in
+at_first : (ops : List Logged) (transcripts : List (List Call)) (image : Image) → opens image ≡ Ok ops → OpensTo (state_at (opening_of ops) transcripts 0) image
+at_first ops transcripts image is =
+    let none : opening_of ops ≡ state_at (opening_of ops) transcripts 0 = ap (fold after_call (opening_of ops)) (sym (take_none (accepted_calls transcripts))) in
     subst (λ (s : ModelState). OpensTo s image) none (in_image false image ops is ∙ ap Some (sym (opened_contents false ops)))
   where
     take_none : (xs : List Call) → take 0 xs ≡ []
@@ -55,18 +53,18 @@ at_first ops calls image is =
 
 -- ---- the run
 
-module _ (name : List ℕ) (commands : List Numbered) (text : List ℕ) (before mid after : DiskTold) (ops : List Logged) (p : Passes before mid) (q : Passes mid after) (read : IsHonest before → opens before.reads ≡ Ok ops)
+module _ (clients : List ClientScript) (text : List ℕ) (before mid after : DiskTold) (ops : List Logged) (p : Passes before mid) (q : Passes mid after) (read : IsHonest before → opens before.reads ≡ Ok ops)
     (stays : IsHonest before → Leaves (λ image. before.now image ⊎ (opens image ≡ opens before.reads)) before mid) where
-  is_run : (failed : Bool) → AreCommandsAnswered name commands text (opening_of ops) mid after failed → IsRun name commands text before after failed
+  is_run : (failed : Bool) → AreClientsAnswered clients text (opening_of ops) mid after failed → IsRun clients text before after failed
   is_run failed a = record {
     ops = ops;
     read = read;
-    calls = a.calls;
+    transcripts = a.transcripts;
     answers = a.answers;
     crash = λ honest image left. ⊎_elim
         (λ (w : mid.since before.moment image). ⊎_elim
         (λ (now : before.now image). inl now)
-        (λ (is : opens image ≡ opens before.reads). inr (inl (record { count = 0; within = zero-le; opens = at_first ops a.calls image (is ∙ read honest) })))
+        (λ (is : opens image ≡ opens before.reads). inr (inl (record { count = 0; within = zero-le; opens = at_first ops a.transcripts image (is ∙ read honest) })))
         (stays honest image w))
         (λ (w : after.since mid.moment image). inr (a.crash (p.honest_on honest) image w))
         (q.was before.moment image p.later left);
@@ -74,7 +72,7 @@ module _ (name : List ℕ) (commands : List Numbered) (text : List ℕ) (before 
     whole = λ none honest image now. a.whole none (p.honest_on honest) image now;
   }
 
-  pub answered_ends : (status : Status) → EndsAnswered name commands (opening_of ops) mid after status text → EndsScript commands name before after status text
+  pub answered_ends : (status : Status) → EndsAnswered clients (opening_of ops) mid after status text → EndsScripts clients before after status text
   answered_ends Done h = is_run false h
   answered_ends DiskFault h = inl (is_run true h)
   answered_ends Refused h = absurd h
@@ -87,10 +85,10 @@ module _ (name : List ℕ) (commands : List Numbered) (text : List ℕ) (before 
 
 -- ---- an opening that failed
 
-pub opening_ends : (name : List ℕ) (commands : List Numbered) (before after : DiskTold) (fault : OpenFault) (status : Status) (text : List ℕ) → (IsHonest before → IsDamageOf (opens before.reads) fault) → StaysAsRead before after → EndsOpening fault status text
-    → EndsScript commands name before after status text
-opening_ends name commands before after (DamagedFault file at) status text damage stays h =
-    subst (λ (s : Status). EndsScript commands name before after s text) (sym h.0) (record { damage = record { file = file; at = at }; found = damage; printed = h.1; stays = stays })
-opening_ends name commands before after DiskFailed status text damage stays h =
-    subst (λ (s : Status). EndsScript commands name before after s text) (sym h.0) (inr (record { printed = h.1; stays = stays }))
-opening_ends name commands before after OutOfMemory status text damage stays h = absurd h
+pub opening_ends : (clients : List ClientScript) (before after : DiskTold) (fault : OpenFault) (status : Status) (text : List ℕ) → (IsHonest before → IsDamageOf (opens before.reads) fault) → StaysAsRead before after → EndsOpening fault status text
+    → EndsScripts clients before after status text
+opening_ends clients before after (DamagedFault file at) status text damage stays h =
+    subst (λ (s : Status). EndsScripts clients before after s text) (sym h.0) (record { damage = record { file = file; at = at }; found = damage; printed = h.1; stays = stays })
+opening_ends clients before after DiskFailed status text damage stays h =
+    subst (λ (s : Status). EndsScripts clients before after s text) (sym h.0) (inr (record { printed = h.1; stays = stays }))
+opening_ends clients before after OutOfMemory status text damage stays h = absurd h

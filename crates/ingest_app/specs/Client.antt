@@ -1,15 +1,16 @@
--- One client: its file, and its transcript.
-use Rattle.std.specs.Prelude.{ℕ, ◌≡◌, ◌⊎◌, nat_lt, length, List, [], ◌∷◌, ◌++◌, map, flat_map, true, false, Bool, codes, if◌then◌else◌}
-use Rattle.std.specs.Prelude.{Option, Some, None, Result, Ok, Err}
-use Rattle.std.specs.List.{AllByRecursion as Each}
+-- The clients of a run: their files, and their transcripts.
+use Rattle.std.specs.Prelude.{ℕ, ◌≡◌, ◌⊎◌, nat_lt, length, List, [], ◌∷◌, ◌++◌, map, flat_map, true, false, Bool, codes}
+use Rattle.std.specs.Prelude.{if◌then◌else◌, Option, Some, None, Result, Ok, Err}
+use Rattle.std.specs.List.{AllZip, AllByRecursion as Each}
 use Rattle.cmd_text.specs.declared.script.Numbered.{Numbered}
 use Rattle.cmd_text.specs.Script.{script_of}
 use Rattle.st_device.specs.Disk.{Image, DiskTold, IsHonest, Leaves}
 use Rattle.st_model.specs.declared.command.Call.{Call}
-use Rattle.st_model.specs.declared.refusal.Refusal.TheVariants.{Stopped}
-use Rattle.st_model.specs.declared.reply.Reply.TheVariants.{Refused}
+use Rattle.st_model.specs.declared.command.Command.{Command}
+use Rattle.st_model.specs.declared.command.FileSeen.{FileSeen}
+use Rattle.st_model.specs.declared.reply.Reply.{Reply}
 use Rattle.st_model.specs.declared.state.ModelState.{ModelState}
-use Rattle.st_model.specs.Asked.{asked_of}
+use Rattle.st_model.specs.Calls.{AreCallsOf}
 use Rattle.st_model.specs.Contents.{opened}
 use Rattle.st_model.specs.Legal.{IsLegal}
 use Rattle.st_model.specs.Line.{line_of}
@@ -17,10 +18,10 @@ use Rattle.log_engine.specs.Engine.{OpensTo}
 use Rattle.log_recover.specs.Contents.{contents_of, known_of}
 use Rattle.log_recover.specs.Opens.{opens}
 use Rattle.st_wal.specs.declared.logged.Logged.{Logged}
+use Rattle.ingest_app.specs.Answer.{IsStrangerTold}
 use Rattle.ingest_app.specs.Crash.{IsOfRun, state_now}
 use Rattle.ingest_app.specs.declared.status.Status.{Status}
 use Rattle.ingest_app.specs.declared.status.Status.TheVariants.{Done, DiskFault}
-use Rattle.ingest_app.specs.Op.{refused_family, stranger_of}
 
 -- the greatest length of a client file
 abbrev pub most_file_bytes : ℕ
@@ -35,46 +36,77 @@ abbrev pub client_script : Option (List ℕ) → Result (List Numbered) ℕ
 client_script None = Err 0
 client_script (Some text) = if nat_lt most_file_bytes (length text) then Err 0 else script_of text
 
+-- a client: its name, and the commands of its file
+pub record ClientScript : Type 0 where
+  pub name : List ℕ
+  pub commands : List Numbered
+
+-- the commands without the numbers of their lines
+abbrev pub commands_of : List Numbered → List Command
+commands_of commands = map (λ numbered. numbered.command) commands
+
+-- ---- transcripts
+
 -- what is printed for a client: its name, and the place and the reply of each call
 abbrev pub transcript : List ℕ → List Call → List ℕ
 transcript name calls = codes "client " ++ name ++ 10 ∷ [] ++ flat_map (λ call. line_of call.place call.reply) calls
 
--- the text is the transcript of calls that answer each of the commands, in order, and that are legal from this state on;
--- a disk fault may have stopped the store
-pub record IsTranscriptOf (name : List ℕ) (commands : List Numbered) (text : List ℕ) (opening : ModelState) (failed : Bool) (calls : List Call) : Type 0 where
-  pub asked : map (λ call. call.asked) calls ≡ map (λ numbered. asked_of numbered.command) commands
-  pub legal : IsLegal opening capacity (calls ∷ []) 0 failed
-  -- the refusal of an unknown family comes exactly where a command names a family other than `default`: the first such;
-  -- that a fault stopped the store before is told first
-  pub unknown : Each (λ call. (call.reply ≡ Refused Stopped) ⊎ (refused_family call.reply ≡ stranger_of call.asked.command)) calls
-  pub printed : text ≡ transcript name calls
+-- the transcripts of the clients, one behind the other
+abbrev pub transcripts_text : List ClientScript → List (List Call) → List ℕ
+transcripts_text [] transcripts = []
+transcripts_text (client ∷ clients) [] = []
+transcripts_text (client ∷ clients) (calls ∷ transcripts) =
+    transcript client.name calls ++ transcripts_text clients transcripts
 
--- The commands were answered from this state on, and what the disk told before the first and after the last.
-pub record AreCommandsAnswered (name : List ℕ) (commands : List Numbered) (text : List ℕ) (opening : ModelState) (before after : DiskTold) (failed : Bool) : Type 0 where
-  pub calls : List Call
-  pub answers : IsTranscriptOf name commands text opening failed calls
-  pub crash : IsHonest before → Leaves (IsOfRun opening calls) before after
-  pub whole : failed ≡ false → IsHonest before → (image : Image) → after.now image → OpensTo (state_now opening calls) image
+-- the calls are those of the client's commands, in order, each of which is answered
+pub record AnswersClient (client : ClientScript) (calls : List Call) : Type 0 where
+  -- the files of each command as it saw them; no command has a file yet
+  pub seen : List (List FileSeen)
+  -- the places and the replies
+  pub answers : List (ℕ × Reply)
+  pub are : AreCallsOf (commands_of client.commands) seen answers calls
+  pub unknown : Each IsStrangerTold calls
+
+-- The text is the transcripts of the clients, whose calls are one legal run from this state on. The inputs haven't failed;
+-- the disk has, or not.
+pub record AreTranscriptsOf (clients : List ClientScript) (text : List ℕ) (opening : ModelState) (failed : Bool)
+    (transcripts : List (List Call)) : Type 0 where
+  pub answered : AllZip AnswersClient clients transcripts
+  pub legal : IsLegal opening capacity transcripts 0 failed
+  pub printed : text ≡ transcripts_text clients transcripts
+
+-- ---- a run
+
+-- The clients were answered from this state on, and what the disk told before the first command and after the last.
+pub record AreClientsAnswered (clients : List ClientScript) (text : List ℕ) (opening : ModelState)
+    (before after : DiskTold) (failed : Bool) : Type 0 where
+  pub transcripts : List (List Call)
+  pub answers : AreTranscriptsOf clients text opening failed transcripts
+  pub crash : IsHonest before → Leaves (IsOfRun opening transcripts) before after
+  pub whole : failed ≡ false → IsHonest before → (image : Image) → after.now image
+      → OpensTo (state_now opening transcripts) image
 
 -- whether a disk fault stopped the store, by the status of the run
-abbrev pub EndsAnswered : List ℕ → List Numbered → ModelState → DiskTold → DiskTold → Status → List ℕ → Type 0
-EndsAnswered name commands opening before after Done text = AreCommandsAnswered name commands text opening before after false
-EndsAnswered name commands opening before after DiskFault text = AreCommandsAnswered name commands text opening before after true
-EndsAnswered name commands opening before after other text = ⊥
+abbrev pub EndsAnswered : List ClientScript → ModelState → DiskTold → DiskTold → Status → List ℕ → Type 0
+EndsAnswered clients opening before after Done text = AreClientsAnswered clients text opening before after false
+EndsAnswered clients opening before after DiskFault text = AreClientsAnswered clients text opening before after true
+EndsAnswered clients opening before after other text = ⊥
 
 -- the state that an opening makes of a store with these operations
 abbrev pub opening_of : List Logged → ModelState
 opening_of ops = opened (contents_of false ops) (known_of ops)
 
--- The commands were answered over the store of the disk, from the contents that it read at first.
-pub record IsRun (name : List ℕ) (commands : List Numbered) (text : List ℕ) (before after : DiskTold) (failed : Bool) : Type 0 where
+-- The clients were answered over the store of the disk, from the contents that it read at first.
+pub record IsRun (clients : List ClientScript) (text : List ℕ) (before after : DiskTold) (failed : Bool) : Type 0 where
   pub ops : List Logged
   pub read : IsHonest before → opens before.reads ≡ Ok ops
-  pub calls : List Call
-  pub answers : IsTranscriptOf name commands text (opening_of ops) failed calls
+  pub transcripts : List (List Call)
+  pub answers : AreTranscriptsOf clients text (opening_of ops) failed transcripts
   -- each image of a crash within the run is one that a crash before it could leave, or opens to the contents after the
   -- first changes, or to those with the change that was cut off; at the end each does the latter
-  pub crash : IsHonest before → Leaves (λ image. before.now image ⊎ IsOfRun (opening_of ops) calls image) before after
-  pub end : IsHonest before → (image : Image) → after.now image → IsOfRun (opening_of ops) calls image
+  pub crash : IsHonest before
+      → Leaves (λ image. before.now image ⊎ IsOfRun (opening_of ops) transcripts image) before after
+  pub end : IsHonest before → (image : Image) → after.now image → IsOfRun (opening_of ops) transcripts image
   -- without a fault it then opens to those after all changes
-  pub whole : failed ≡ false → IsHonest before → (image : Image) → after.now image → OpensTo (state_now (opening_of ops) calls) image
+  pub whole : failed ≡ false → IsHonest before → (image : Image) → after.now image
+      → OpensTo (state_now (opening_of ops) transcripts) image

@@ -13,7 +13,7 @@ use Rattle.st_stream.specs.Inputs.{InputsTold}
 use Rattle.st_stream.specs.Sink.{SinkTold, AppendsPrefix}
 use Rattle.st_wal.specs.declared.logged.Logged.{Logged}
 use Rattle.cmd_text.specs.declared.script.Numbered.{Numbered}
-use Rattle.ingest_app.specs.Client.{client_script, IsRun}
+use Rattle.ingest_app.specs.Client.{ClientScript, client_script, IsRun}
 use Rattle.ingest_app.specs.declared.status.Status.{Status}
 use Rattle.ingest_app.specs.declared.status.Status.TheVariants.{Done, Memory, InputFault, DiskFault, SinkFault, Script, Damaged, NotYet}
 
@@ -63,18 +63,22 @@ EndsOpening (opening.Damaged file at) status text = (status ≡ Damaged) × (tex
 EndsOpening opening.DiskFault status text = (status ≡ DiskFault) × (text ≡ disk_text)
 EndsOpening opening.OutOfMemory status text = ⊥
 
--- The commands of a client may end with this status over the disk, if the sink takes this text.
-abbrev pub EndsScript : List Numbered → List ℕ → DiskTold → DiskTold → Status → List ℕ → Type 0
-EndsScript commands name before after Done text = IsRun name commands text before after false
-EndsScript commands name before after DiskFault text = IsRun name commands text before after true ⊎ IsUnopened text before after
-EndsScript commands name before after Damaged text = IsDamagedStore text before after
-EndsScript commands name before after other text = ⊥
+-- A run of these clients may end with this status over the disk, if the sink takes this text.
+abbrev pub EndsScripts : List ClientScript → DiskTold → DiskTold → Status → List ℕ → Type 0
+EndsScripts clients before after Done text = IsRun clients text before after false
+EndsScripts clients before after DiskFault text = IsRun clients text before after true ⊎ IsUnopened text before after
+EndsScripts clients before after Damaged text = IsDamagedStore text before after
+EndsScripts clients before after other text = ⊥
+
+-- the only client
+abbrev pub one_client : List ℕ → List Numbered → List ClientScript
+one_client name commands = record { name = name; commands = commands } ∷ []
 
 -- the client's file has commands, and they end so
 pub record IsScript (file : Option (List ℕ)) (name : List ℕ) (before after : DiskTold) (status : Status) (text : List ℕ) : Type 0 where
   pub commands : List Numbered
   pub read : client_script file ≡ Ok commands
-  pub ends : EndsScript commands name before after status text
+  pub ends : EndsScripts (one_client name commands) before after status text
 
 -- the client's file is no script, and the text names its first faulty line
 pub record IsFaulty (file : Option (List ℕ)) (name text : List ℕ) : Type 0 where

@@ -1,17 +1,19 @@
 //! The commands, answered by the engine one by one.
-ghost use Rattle.std.specs.Prelude.{◌≡◌, ◌⊎◌, IfOk, OnOk, None};
+ghost use Rattle.std.specs.Prelude.{◌≡◌, ◌⊎◌, ◌&&◌, IfOk, OnOk, None, false, nat_le};
 ghost use Rattle.st_base.specs.Count.{Rose};
 ghost use Rattle.st_device.specs.Disk.{IsHonest, Passes};
 ghost use Rattle.log_engine.specs.Engine.{IsTied};
 ghost use Rattle.log_engine.specs.Op.{IsWrite};
 ghost use Rattle.log_engine.specs.MarkStore.{StandsForState};
 ghost use Rattle.st_model.specs.declared.state.ModelState.{ModelState};
-ghost use Rattle.st_model.specs.Answer.{get_answer};
+ghost use Rattle.st_model.specs.Reads.{get_answer};
+ghost use Rattle.st_model.specs.Long.{IsCut, is_long, is_read};
+ghost use Rattle.st_model.specs.State.{long_transcript};
 ghost use Rattle.ingest_app.specs.Answer.{EngineSteps, answered_call};
-ghost use Rattle.ingest_app.specs.Op.{FitsLimits};
+ghost use Rattle.ingest_app.specs.Op.{IsServed};
 
 use log_engine::Engine;
-use st_base::{Family, Key};
+use st_base::{Family, Key, LONG_TRANSCRIPT};
 use st_device::Disk;
 use st_model::{Batch, Command, Refusal, Reply};
 use std::alloc::AllocError;
@@ -38,6 +40,7 @@ fn answer_write<D: Disk>(engine: &mut Engine<D>, batch: &Batch) -> Result<Answer
     requires limits { IsWrite batch.now.ops }
     requires tied { IsHonest (D.tells engine.old.disk) → engine.old.stopped ≡ None → IsTied engine.old.wal engine.old.store (D.tells engine.old.disk) }
     ensures steps { IfOk result (λ answer. (state : ModelState) → StandsForState engine.old.store state → EngineSteps engine.old.store engine.new.store engine.old.stopped engine.new.stopped (D.tells engine.old.disk) (D.tells engine.new.disk) state (answered_call (Command.Write batch.now) answer)) }
+    ensures short { IfOk result (λ answer. is_long answer.reply ≡ false) }
     ensures tied { IsHonest (D.tells engine.old.disk) → engine.new.stopped ≡ None → IsTied engine.new.wal engine.new.store (D.tells engine.new.disk) }
     ensures untouched { (engine.old.stopped ≡ None) ⊎ (engine.new.disk ≡ engine.old.disk) }
     ensures cause { (engine.new.stopped ≡ engine.old.stopped) ⊎ Rose (D.tells engine.old.disk).faults (D.tells engine.new.disk).faults }
@@ -57,7 +60,8 @@ fn answer_write<D: Disk>(engine: &mut Engine<D>, batch: &Batch) -> Result<Answer
 }
 
 fn answer_get<D: Disk>(engine: &Engine<D>, family: &Family, key: &Key) -> Result<Answer, AllocError>
-    ensures { IfOk result (λ answer. (state : ModelState) → StandsForState engine.now.store state → (answer.place ≡ state.place) × (answer.reply ≡ get_answer state state.last family.now key.now)) }
+    ensures short { IfOk result (λ answer. is_long answer.reply ≡ false) }
+    ensures answered { IfOk result (λ answer. (state : ModelState) → StandsForState engine.now.store state → (answer.place ≡ state.place) × (answer.reply ≡ get_answer state state.last family.now key.now)) }
 {
     let place = engine.place();
     match engine.read_now(family, key) {
@@ -76,14 +80,15 @@ fn answer_get<D: Disk>(engine: &Engine<D>, family: &Family, key: &Key) -> Result
     }
 }
 
-/// Answers a command, which is within the limits of a write. After memory ran out the engine isn't used again.
-pub fn answer_command<D: Disk>(
+// Answers a command that is served, by the engine.
+fn answer_command<D: Disk>(
     engine: &mut Engine<D>,
     command: &Command,
 ) -> Result<Answer, AllocError>
-    requires limits { FitsLimits command.now }
+    requires served { IsServed command.now }
     requires tied { IsHonest (D.tells engine.old.disk) → engine.old.stopped ≡ None → IsTied engine.old.wal engine.old.store (D.tells engine.old.disk) }
     ensures steps { IfOk result (λ answer. (state : ModelState) → StandsForState engine.old.store state → EngineSteps engine.old.store engine.new.store engine.old.stopped engine.new.stopped (D.tells engine.old.disk) (D.tells engine.new.disk) state (answered_call command.now answer)) }
+    ensures short { IfOk result (λ answer. is_long answer.reply ≡ false) }
     ensures tied { IsHonest (D.tells engine.old.disk) → engine.new.stopped ≡ None → IsTied engine.new.wal engine.new.store (D.tells engine.new.disk) }
     ensures untouched { (engine.old.stopped ≡ None) ⊎ (engine.new.disk ≡ engine.old.disk) }
     ensures cause { (engine.new.stopped ≡ engine.old.stopped) ⊎ Rose (D.tells engine.old.disk).faults (D.tells engine.new.disk).faults }
@@ -93,5 +98,78 @@ pub fn answer_command<D: Disk>(
     match command {
         Command::Write(batch) => answer_write(engine, batch),
         Command::Get(family, key) => answer_get(engine, family, key),
+        Command::GetAt(..)
+        | Command::View(..)
+        | Command::Scan(..)
+        | Command::ScanAt(..)
+        | Command::Snap(..)
+        | Command::Release(..)
+        | Command::MakeFamily(..)
+        | Command::DropFamily(..)
+        | Command::Flush(..)
+        | Command::Compact(..)
+        | Command::Ingest(..)
+        | Command::Await { .. } => unreachable!(),
     }
+}
+
+// Whether the command only reads.
+fn is_read(command: &Command) -> bool
+    ensures { result ≡ is_read command.now }
+{
+    match command {
+        Command::Get(..)
+        | Command::GetAt(..)
+        | Command::View(..)
+        | Command::Scan(..)
+        | Command::ScanAt(..) => true,
+        Command::Write(..)
+        | Command::Snap(..)
+        | Command::Release(..)
+        | Command::MakeFamily(..)
+        | Command::DropFamily(..)
+        | Command::Flush(..)
+        | Command::Compact(..)
+        | Command::Ingest(..)
+        | Command::Await { .. } => false,
+    }
+}
+
+// Whether the command is a read for which the transcript of so many bytes is too long.
+fn is_cut(command: &Command, printed: usize) -> bool
+    ensures { result ≡ (is_read command.now && nat_le long_transcript printed) }
+{
+    is_read(command) && printed as u64 >= LONG_TRANSCRIPT
+}
+
+/// Answers a command that is served, of a client whose transcript has so many bytes behind its first line. After memory
+/// ran out the engine isn't used again.
+pub fn answer_printed<D: Disk>(
+    engine: &mut Engine<D>,
+    command: &Command,
+    printed: usize,
+) -> Result<Answer, AllocError>
+    requires served { IsServed command.now }
+    requires tied { IsHonest (D.tells engine.old.disk) → engine.old.stopped ≡ None
+        → IsTied engine.old.wal engine.old.store (D.tells engine.old.disk) }
+    ensures steps { IfOk result (λ answer. (state : ModelState) → StandsForState engine.old.store state
+        → EngineSteps engine.old.store engine.new.store engine.old.stopped engine.new.stopped
+        (D.tells engine.old.disk) (D.tells engine.new.disk) state (answered_call command.now answer)) }
+    ensures cut { IfOk result (λ answer. IsCut printed (answered_call command.now answer)) }
+    ensures tied { IsHonest (D.tells engine.old.disk) → engine.new.stopped ≡ None
+        → IsTied engine.new.wal engine.new.store (D.tells engine.new.disk) }
+    ensures untouched { (engine.old.stopped ≡ None) ⊎ (engine.new.disk ≡ engine.old.disk) }
+    ensures cause { (engine.new.stopped ≡ engine.old.stopped)
+        ⊎ Rose (D.tells engine.old.disk).faults (D.tells engine.new.disk).faults }
+    ensures options { (engine.new.store.behind ≡ engine.old.store.behind)
+        × (engine.new.store.capacity ≡ engine.old.store.capacity) }
+    ensures passes { Passes (D.tells engine.old.disk) (D.tells engine.new.disk) }
+{
+    if is_cut(command, printed) {
+        return Ok(Answer {
+            place: engine.place(),
+            reply: Reply::Long,
+        });
+    }
+    answer_command(engine, command)
 }

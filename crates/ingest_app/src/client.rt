@@ -6,20 +6,19 @@ ghost use Rattle.st_device.specs.Disk.{IsHonest, Passes};
 ghost use Rattle.log_engine.specs.Engine.{IsTied};
 ghost use Rattle.log_engine.specs.MarkStore.{StandsForState};
 ghost use Rattle.st_model.specs.declared.state.ModelState.{ModelState};
-ghost use Rattle.ingest_app.specs.Client.{AreCommandsAnswered, transcript};
+ghost use Rattle.st_model.specs.State.{IsOpening};
+ghost use Rattle.ingest_app.specs.Client.{AreClientsAnswered, transcript};
+ghost use Rattle.ingest_app.specs.Run.{one_client};
 ghost use Rattle.ingest_app.specs.Answer.{Prints};
-ghost use Rattle.ingest_app.specs.Op.{FitsLimits};
+ghost use Rattle.ingest_app.specs.Op.{IsServed};
 
-use crate::answer::answer_command;
+use crate::answer::answer_printed;
 use cmd_text::{Script, push_reply};
 use log_engine::Engine;
-use st_base::Bytes;
+use st_base::{Bytes, CAPACITY};
 use st_device::Disk;
 use st_model::Command;
 use std::alloc::{AllocError, Global};
-
-/// The greatest charge of the program's store, in bytes.
-pub const CAPACITY: u64 = 1_073_741_824;
 
 // The first line of a transcript.
 fn heading(alloc: Global, name: &str) -> Result<Bytes, AllocError>
@@ -31,22 +30,28 @@ fn heading(alloc: Global, name: &str) -> Result<Bytes, AllocError>
     Ok(text)
 }
 
-// Answers one command, and appends the answer's line to the text.
+// Answers one command, and appends the answer's line to the text, whose first line has so many bytes.
 fn print_answer<D: Disk>(
     engine: &mut Engine<D>,
     command: &Command,
+    heading: usize,
     text: &mut Bytes,
 ) -> Result<(), AllocError>
-    requires limits { FitsLimits command.now }
-    requires tied { IsHonest (D.tells engine.old.disk) → engine.old.stopped ≡ None → IsTied engine.old.wal engine.old.store (D.tells engine.old.disk) }
-    ensures printed { OnOk result (Prints engine.old.store engine.new.store engine.old.stopped engine.new.stopped (D.tells engine.old.disk) (D.tells engine.new.disk) command.now text.old text.new) }
-    ensures tied { IsHonest (D.tells engine.old.disk) → engine.new.stopped ≡ None → IsTied engine.new.wal engine.new.store (D.tells engine.new.disk) }
+    requires served { IsServed command.now }
+    requires tied { IsHonest (D.tells engine.old.disk) → engine.old.stopped ≡ None
+        → IsTied engine.old.wal engine.old.store (D.tells engine.old.disk) }
+    ensures printed { OnOk result (Prints engine.old.store engine.new.store engine.old.stopped engine.new.stopped
+        (D.tells engine.old.disk) (D.tells engine.new.disk) command.now heading text.old text.new) }
+    ensures tied { IsHonest (D.tells engine.old.disk) → engine.new.stopped ≡ None
+        → IsTied engine.new.wal engine.new.store (D.tells engine.new.disk) }
     ensures untouched { (engine.old.stopped ≡ None) ⊎ (engine.new.disk ≡ engine.old.disk) }
-    ensures cause { (engine.new.stopped ≡ engine.old.stopped) ⊎ Rose (D.tells engine.old.disk).faults (D.tells engine.new.disk).faults }
-    ensures options { (engine.new.store.behind ≡ engine.old.store.behind) × (engine.new.store.capacity ≡ engine.old.store.capacity) }
+    ensures cause { (engine.new.stopped ≡ engine.old.stopped)
+        ⊎ Rose (D.tells engine.old.disk).faults (D.tells engine.new.disk).faults }
+    ensures options { (engine.new.store.behind ≡ engine.old.store.behind)
+        × (engine.new.store.capacity ≡ engine.old.store.capacity) }
     ensures passes { Passes (D.tells engine.old.disk) (D.tells engine.new.disk) }
 {
-    let answer = answer_command(engine, command)?;
+    let answer = answer_printed(engine, command, text.len().saturating_sub(heading))?;
     push_reply(text, answer.place, &answer.reply)
 }
 
@@ -57,17 +62,21 @@ pub fn answer_script<D: Disk>(
     script: &Script,
     engine: &mut Engine<D>,
 ) -> Result<Bytes, AllocError>
-    requires limits { Each (λ numbered. FitsLimits numbered.command) script.now.commands }
+    requires served { Each (λ numbered. IsServed numbered.command) script.now.commands }
     requires tied { IsHonest (D.tells engine.old.disk) → IsTied engine.old.wal engine.old.store (D.tells engine.old.disk) }
     requires running { engine.old.stopped ≡ None }
     requires capacity { engine.old.store.capacity ≡ CAPACITY }
-    ensures answered { IfOk result (λ text. (opening : ModelState) → StandsForState engine.old.store opening → opening.place ≡ 0 → AreCommandsAnswered name.now script.now.commands text opening (D.tells engine.old.disk) (D.tells engine.new.disk) (is_some engine.new.stopped)) }
-    ensures cause { (engine.new.stopped ≡ None) ⊎ Rose (D.tells engine.old.disk).faults (D.tells engine.new.disk).faults }
+    ensures answered { IfOk result (λ text. (opening : ModelState) → StandsForState engine.old.store opening
+        → IsOpening opening → AreClientsAnswered (one_client name.now script.now.commands) text opening
+        (D.tells engine.old.disk) (D.tells engine.new.disk) (is_some engine.new.stopped)) }
+    ensures cause { (engine.new.stopped ≡ None)
+        ⊎ Rose (D.tells engine.old.disk).faults (D.tells engine.new.disk).faults }
     ensures passes { Passes (D.tells engine.old.disk) (D.tells engine.new.disk) }
 {
     let mut text = heading(alloc, name)?;
+    let heading = text.len();
     for numbered in script.commands.as_slice() {
-        print_answer(engine, &numbered.command, &mut text)?;
+        print_answer(engine, &numbered.command, heading, &mut text)?;
     }
     Ok(text)
 }

@@ -10,12 +10,9 @@ use crate::outcome::{Outcome, not_yet};
 use crate::show::show;
 use crate::status::Status;
 use crate::write::write_outcome;
-use st_base::Bytes;
+use st_base::{Bytes, SOURCE_BYTES};
 use st_stream::{ReadFault, Sink, Source, SourceRead, read_source};
 use std::alloc::{AllocError, Global};
-
-/// The greatest size of a source, in bytes.
-const SOURCE_BYTES: u64 = 268_435_456;
 
 /// What is made of the source.
 #[derive(Clone, Copy, PartialEq, Eq, Drop)]

@@ -8,16 +8,17 @@ ghost use Rattle.st_stream.specs.Inputs.{InputsUntouched};
 ghost use Rattle.log_engine.specs.Engine.{IsTied};
 ghost use Rattle.log_engine.specs.MarkStore.{StandsForState};
 ghost use Rattle.st_model.specs.declared.state.ModelState.{ModelState};
+ghost use Rattle.st_model.specs.State.{IsOpening};
 ghost use Rattle.ingest_app.specs.Client.{EndsAnswered};
-ghost use Rattle.ingest_app.specs.Op.{FitsLimits};
-ghost use Rattle.ingest_app.specs.Run.{client_of, Ends, EndsNamed, EndsClient, EndsOpening, EndsScript, Faulted, IsBeforeDisk, IsOfFile, damaged_text, input_text, script_text, not_yet_text};
+ghost use Rattle.ingest_app.specs.Op.{IsServed};
+ghost use Rattle.ingest_app.specs.Run.{client_of, Ends, EndsNamed, EndsClient, EndsOpening, EndsScripts, Faulted, IsBeforeDisk, IsOfFile, damaged_text, input_text, one_client, script_text, not_yet_text};
 ghost use Rattle.st_stream.specs.FileRead.{file_read, IsFileWithin};
 
-use crate::client::{CAPACITY, answer_script};
+use crate::client::answer_script;
 use crate::status::Status;
 use cmd_text::{Script, ScriptFault, read_script};
 use log_engine::{Engine, OpenFault, Options};
-use st_base::{Bytes, CLIENT_FILE_BYTES, is_name};
+use st_base::{Bytes, CAPACITY, CLIENT_FILE_BYTES, is_name};
 use st_device::Disk;
 use st_stream::{FileRead, Inputs, ReadFault, read_file};
 use std::alloc::{AllocError, Global};
@@ -88,11 +89,11 @@ fn run_engine<D: Disk>(
     script: &Script,
     mut engine: Engine<D>,
 ) -> (Result<Outcome, AllocError>, D)
-    requires limits { Each (λ numbered. FitsLimits numbered.command) script.now.commands }
+    requires served { Each (λ numbered. IsServed numbered.command) script.now.commands }
     requires tied { IsHonest (D.tells engine.disk) → IsTied engine.wal engine.store (D.tells engine.disk) }
     requires running { engine.stopped ≡ None }
     requires capacity { engine.store.capacity ≡ CAPACITY }
-    ensures ends { IfOk result.0 (λ outcome. (opening : ModelState) → StandsForState engine.store opening → opening.place ≡ 0 → EndsAnswered name.now script.now.commands opening (D.tells engine.disk) (D.tells result.1) outcome.status outcome.text) }
+    ensures ends { IfOk result.0 (λ outcome. (opening : ModelState) → StandsForState engine.store opening → IsOpening opening → EndsAnswered (one_client name.now script.now.commands) opening (D.tells engine.disk) (D.tells result.1) outcome.status outcome.text) }
     ensures fault { IfOk result.0 (λ outcome. outcome.status ≡ Status.DiskFault → Faulted (D.tells engine.disk) (D.tells result.1)) }
     ensures passes { Passes (D.tells engine.disk) (D.tells result.1) }
 {
@@ -132,8 +133,8 @@ fn run_script<D: Disk>(
     script: &Script,
     disk: D,
 ) -> (Result<Outcome, AllocError>, D)
-    requires { Each (λ numbered. FitsLimits numbered.command) script.now.commands }
-    ensures ends { IfOk result.0 (λ outcome. EndsScript script.now.commands name.now (D.tells disk) (D.tells result.1) outcome.status outcome.text) }
+    requires { Each (λ numbered. IsServed numbered.command) script.now.commands }
+    ensures ends { IfOk result.0 (λ outcome. EndsScripts (one_client name.now script.now.commands) (D.tells disk) (D.tells result.1) outcome.status outcome.text) }
     ensures fault { IfOk result.0 (λ outcome. outcome.status ≡ Status.DiskFault → Faulted (D.tells disk) (D.tells result.1)) }
     ensures passes { Passes (D.tells disk) (D.tells result.1) }
 {

@@ -6,7 +6,7 @@ use Rattle.log_engine.specs.MarkStore.{StandsForState}
 use Rattle.log_engine.proofs.Writing.{tied_opens}
 use Rattle.st_model.specs.declared.command.Command.{Command}
 use Rattle.st_model.specs.declared.state.ModelState.{ModelState}
-use Rattle.st_model.specs.Answer.{get_answer}
+use Rattle.st_model.specs.Reads.{get_answer}
 use Rattle.ingest_app.specs.Answer.{EngineSteps, answered_call}
 use Rattle.ingest_app.specs.declared.answer.Answer.{Answer}
 use Rattle.ingest_app.proofs.Answering.{get_steps, if_ok_map}
@@ -30,4 +30,4 @@ returns-in-Get-clause-steps g c =
     subst (λ (command : Command). EngineSteps engine.store engine.store engine.stopped engine.stopped disk disk state (answered_call command answer)) (sym c.in-Get.is)
     (get_steps engine.store engine.stopped disk state c.in-Get.family c.in-Get.key answer h (says state h).0 (says state h).1
     (λ honest running image left. opens honest running image ((g.met.D.Disk.clock engine.disk).only_now image left)) opens))
-    c.answer_get.ensures
+    c.answer_get.ensures.answered

@@ -6,7 +6,7 @@ use Rattle.st_model.specs.declared.command.Command.TheVariants.{Write}
 use Rattle.st_model.specs.declared.refusal.Refusal.{Refusal}
 use Rattle.st_model.specs.declared.refusal.Refusal.TheVariants.{DiskFault}
 use Rattle.st_model.specs.declared.reply.Reply.TheVariants.{Refused}
-use Rattle.st_model.specs.Legal.{is_stop}
+use Rattle.st_model.specs.Causes.{is_stop}
 use Rattle.ingest_app.specs.Answer.{EngineSteps, answered_call}
 use Rattle.ingest_app.proofs.Answering.{accepted_steps, fault_or, no_stop_of, refused_steps, running_of}
 use Rattle.ingest_app.proofs.answer.answer_write.Goals as goal

@@ -1,11 +1,12 @@
-use Rattle.std.proofs.Common.{◌≡◌, ◌⊎◌, None, map, take}
+use Rattle.std.proofs.Common.{◌≡◌, ◌⊎◌, None, [], length, map, take}
 use Rattle.st_base.specs.Count.{Rose}
 use Rattle.st_device.specs.Disk.{IsHonest, Passes}
 use Rattle.log_engine.specs.Engine.{IsTied}
 use Rattle.log_engine.specs.MarkStore.{StandsForState}
 use Rattle.st_model.specs.declared.state.ModelState.{ModelState}
-use Rattle.st_model.specs.Asked.{asked_of}
+use Rattle.st_model.specs.State.{IsOpening}
 use Rattle.cmd_text.specs.declared.script.Numbered.{Numbered}
+use Rattle.ingest_app.specs.Client.{commands_of, transcript}
 use Rattle.ingest_app.proofs.Along.{Along}
 use Rattle.ingest_app.proofs.client.answer_script.Given as goal
 
@@ -16,6 +17,6 @@ invariant-loop-numbered g l = record {
   capacity : l.engine.store.capacity ≡ l.initial.engine.store.capacity;
   cause : (l.engine.stopped ≡ None) ⊎ Rose (g.D.Disk.tells l.initial.engine.disk).faults (g.D.Disk.tells l.engine.disk).faults;
   tied : IsHonest (g.D.Disk.tells l.initial.engine.disk) → l.engine.stopped ≡ None → IsTied l.engine.wal l.engine.store (g.D.Disk.tells l.engine.disk);
-  along : (opening : ModelState) → StandsForState l.initial.engine.store opening → opening.place ≡ 0
-      → Along l.name l.text opening (g.D.Disk.tells l.initial.engine.disk) (g.D.Disk.tells l.engine.disk) l.engine.store l.engine.stopped (map (λ (numbered : Numbered). asked_of numbered.command) (take l.numbered-index l.numbered-items));
+  along : (opening : ModelState) → StandsForState l.initial.engine.store opening → IsOpening opening
+      → Along l.name l.text opening (g.D.Disk.tells l.initial.engine.disk) (g.D.Disk.tells l.engine.disk) l.engine.store l.engine.stopped (commands_of (take l.numbered-index l.numbered-items));
 }
