@@ -4,6 +4,7 @@ use Rattle.std.specs.Prelude.{is_some, not}
 use Rattle.std.specs.List.{IsDistinct, AllByRecursion as Each}
 use Rattle.std.proofs.lemmas.List.{length-map}
 use Rattle.base_laws.proofs.Lists.{each_as, each_push}
+use Rattle.st_base.specs.declared.limits.TheConstants.{CAPACITY}
 use Rattle.st_device.specs.Disk.{Image, DiskTold, IsHonest, Leaves, Passes}
 use Rattle.st_device.proofs.Moments.{leaves_then}
 use Rattle.log_engine.specs.Engine.{OpensTo}
@@ -33,7 +34,7 @@ use Rattle.st_model.specs.Step.{IsStep, after}
 use Rattle.model_laws.specs.Claims.{IsCausedStep, StandsLonger}
 use Rattle.model_laws.proofs.Grow.{begins_legally, causes_grow, legal_grows, stands_grow}
 use Rattle.ingest_app.specs.Answer.{IsOfCall, IsStrangerTold, Prints, EngineSteps, answered_call, asked_alone}
-use Rattle.ingest_app.specs.Client.{capacity, transcript}
+use Rattle.ingest_app.specs.Client.{transcript}
 use Rattle.ingest_app.specs.Crash.{IsAfterFirst, IsAmong, IsOfRun, IsWithCutOff, state_now}
 use Rattle.ingest_app.specs.Op.{IsServed, is_served, refused_family, stranger_of}
 use Rattle.ingest_app.specs.declared.answer.Answer.{Answer}
@@ -51,7 +52,7 @@ pub record Along (name text : List ℕ) (opening : ModelState) (before now : Dis
   pub are : AreCallsOf commands (no_files commands) answers calls
   pub state : ModelState
   pub stands : StandsForState store state
-  pub legal : IsLegal opening capacity (calls ∷ []) 0 (is_some stopped)
+  pub legal : IsLegal opening CAPACITY (calls ∷ []) 0 (is_some stopped)
   pub newest : state.place ≡ changes_in (calls ∷ [])
   pub is : state ≡ state_at opening (calls ∷ []) state.place
   pub unknown : Each IsStrangerTold calls
@@ -207,10 +208,10 @@ newest_of : (b : Bool) (place changes : ℕ) → place ≡ changes → MatchBool
 newest_of true place changes e = e
 newest_of false place changes e = le_of_eq e
 
-module _ (opening : ModelState) (was is : Option ℕ) (calls : List Call) (call : Call) (state : ModelState) (legal : IsLegal opening capacity (calls ∷ []) 0 (is_some was)) (newest : state.place ≡ changes_in (calls ∷ [])) (here : state ≡ state_at opening (calls ∷ []) state.place)
-    (step : IsStep state capacity (calls ∷ []) calls call) (plain : IsPlain call.reply) (change : is_change call.reply ≡ true → was ≡ None) (still : is ≡ None → (was ≡ None) × (is_stop call.reply ≡ false)) where
+module _ (opening : ModelState) (was is : Option ℕ) (calls : List Call) (call : Call) (state : ModelState) (legal : IsLegal opening CAPACITY (calls ∷ []) 0 (is_some was)) (newest : state.place ≡ changes_in (calls ∷ [])) (here : state ≡ state_at opening (calls ∷ []) state.place)
+    (step : IsStep state CAPACITY (calls ∷ []) calls call) (plain : IsPlain call.reply) (change : is_change call.reply ≡ true → was ≡ None) (still : is ≡ None → (was ≡ None) × (is_stop call.reply ≡ false)) where
   longer : StandsLonger opening (calls ∷ []) ((calls ++ call ∷ []) ∷ []) state call
-  longer = stands_grow opening capacity 0 (is_some was) [] [] calls call state legal here step
+  longer = stands_grow opening CAPACITY 0 (is_some was) [] [] calls call state legal here step
 
   caused : IsCausedStep (all_calls (calls ∷ [])) call 0 0 (is_some was) (is_some is)
   caused = record {
@@ -223,8 +224,8 @@ module _ (opening : ModelState) (was is : Option ℕ) (calls : List Call) (call 
         (λ d within stored. omega (arith, within, newest, step.place)) (all_calls (calls ∷ [])) legal.within;
   }
 
-  pub grown : IsLegal opening capacity ((calls ++ call ∷ []) ∷ []) 0 (is_some is)
-  grown = legal_grows opening capacity 0 0 (is_some was) (is_some is) [] [] calls call state legal here step
+  pub grown : IsLegal opening CAPACITY ((calls ++ call ∷ []) ∷ []) 0 (is_some is)
+  grown = legal_grows opening CAPACITY 0 0 (is_some was) (is_some is) [] [] calls call state legal here step
       (causes_grow 0 0 (is_some was) (is_some is) [] [] calls call legal.causes caused)
 
   -- the place that is printed is the number of changes
@@ -300,12 +301,12 @@ module _ (opening : ModelState) (was is : Option ℕ) (calls : List Call) (call 
       })
 
 -- the answer of the engine as a step of the run
-module _ (opening : ModelState) (failed : Bool) (calls : List Call) (state : ModelState) (one : Command) (answer : Answer) (served : IsServed one) (legal : IsLegal opening capacity (calls ∷ []) 0 failed) (newest : state.place ≡ changes_in (calls ∷ []))
-    (old new : MarkStore) (was is : Option ℕ) (before after_it : DiskTold) (room : old.capacity ≡ capacity) (steps : EngineSteps old new was is before after_it state (answered_call one answer)) where
+module _ (opening : ModelState) (failed : Bool) (calls : List Call) (state : ModelState) (one : Command) (answer : Answer) (served : IsServed one) (legal : IsLegal opening CAPACITY (calls ∷ []) 0 failed) (newest : state.place ≡ changes_in (calls ∷ []))
+    (old new : MarkStore) (was is : Option ℕ) (before after_it : DiskTold) (room : old.capacity ≡ CAPACITY) (steps : EngineSteps old new was is before after_it state (answered_call one answer)) where
   pub plain_reply : IsPlain answer.reply
   plain_reply = served_plain answer.reply steps.served
 
-  pub step_of : (bytes : ℕ) → IsCut bytes (answered_call one answer) → bytes ≡ Rattle.st_model.specs.Long.printed_length calls → IsStep state capacity (calls ∷ []) calls (answered_call one answer)
+  pub step_of : (bytes : ℕ) → IsCut bytes (answered_call one answer) → bytes ≡ Rattle.st_model.specs.Long.printed_length calls → IsStep state CAPACITY (calls ∷ []) calls (answered_call one answer)
   step_of bytes cut length_is = record {
     asked = served_asks calls one served;
     seen = subst (Each (λ (d : Call). d.place ≤ state.place)) (all_of_one calls)
@@ -321,7 +322,7 @@ module _ (opening : ModelState) (failed : Bool) (calls : List Call) (state : Mod
 -- the calls with one more
 module _ {D : Type 0} (tells : D → DiskTold) (name text text' : List ℕ) (opening : ModelState) (before : DiskTold) (mid new : D) (old_store new_store : MarkStore) (was is : Option ℕ) (commands : List Command) (one : Command) (heading : ℕ)
     (first : heading ≡ length (transcript name [])) (served : IsServed one)
-    (p : Passes before (tells mid)) (q : Passes (tells mid) (tells new)) (room : old_store.capacity ≡ capacity) (old : Along name text opening before (tells mid) old_store was commands)
+    (p : Passes before (tells mid)) (q : Passes (tells mid) (tells new)) (room : old_store.capacity ≡ CAPACITY) (old : Along name text opening before (tells mid) old_store was commands)
     (more : Prints old_store new_store was is (tells mid) (tells new) one heading text text') (same : (was ≡ None) ⊎ (new ≡ mid)) where
   abbrev call : Call
   call = answered_call one more.answer
@@ -332,7 +333,7 @@ module _ {D : Type 0} (tells : D → DiskTold) (name text text' : List ℕ) (ope
   plain : IsPlain more.answer.reply
   plain = plain_reply opening (is_some was) old.calls old.state one more.answer served old.legal old.newest old_store new_store was is (tells mid) (tells new) room steps
 
-  step : IsStep old.state capacity (old.calls ∷ []) old.calls (answered_call one more.answer)
+  step : IsStep old.state CAPACITY (old.calls ∷ []) old.calls (answered_call one more.answer)
   step = step_of opening (is_some was) old.calls old.state one more.answer served old.legal old.newest old_store new_store was is (tells mid) (tells new) room steps
       (length text - heading) more.cut (transcript_length name old.calls text heading old.printed first)
 
@@ -364,14 +365,14 @@ module _ {D : Type 0} (tells : D → DiskTold) (name text text' : List ℕ) (ope
 pub along_start : (name text : List ℕ) (opening : ModelState) (before : DiskTold) (store : MarkStore) (stopped : Option ℕ) → text ≡ transcript name [] → StandsForState store opening → IsOpening opening → stopped ≡ None
     → (IsHonest before → Leaves (OpensTo opening) before before) → (IsHonest before → (image : Image) → before.now image → OpensTo opening image) → Along name text opening before before store stopped []
 along_start name text opening before store stopped printed stands fresh running leaves opens =
-    let begins = begins_legally opening capacity ([] ∷ []) fresh (refl, tt) in
+    let begins = begins_legally opening CAPACITY ([] ∷ []) fresh (refl, tt) in
     record {
       calls = [];
       answers = [];
       are = record { answered = refl; each_seen = refl; are = refl };
       state = opening;
       stands = stands;
-      legal = subst (λ (failed : Bool). IsLegal opening capacity ([] ∷ []) 0 failed) (sym (ap is_some running)) begins.0;
+      legal = subst (λ (failed : Bool). IsLegal opening CAPACITY ([] ∷ []) 0 failed) (sym (ap is_some running)) begins.0;
       newest = fresh.place;
       is = sym begins.1 ∙ ap (state_at opening ([] ∷ [])) (sym fresh.place);
       unknown = tt;

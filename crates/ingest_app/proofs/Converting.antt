@@ -3,6 +3,7 @@ use Rattle.std.proofs.Common.{◌≡◌, ◌⊎◌, inl, inr, ⊎_elim, ℕ, ◌
 use Rattle.std.specs.Prelude.{MatchOption, nat_lt, nat_le, cond, false, Result, Ok, Err, IfOk}
 use Rattle.std.proofs.lemmas.Bool.{false≢true}
 use Rattle.std.proofs.lemmas.Bool.Decides.{nat_tests}
+use Rattle.st_base.specs.declared.limits.TheConstants.{SOURCE_BYTES}
 use Rattle.st_base.specs.Count.{Rose}
 use Rattle.st_base.specs.declared.faults.TableFault.TheVariants.{TooLarge}
 use Rattle.st_stream.specs.Source.{SourceTold}
@@ -12,7 +13,7 @@ use Rattle.st_stream.specs.declared.source_reading.SourceRead.TheVariants.{TooLo
 use Rattle.st_table.specs.Footer.{footer_of, greatest_size}
 use Rattle.st_table.specs.Table.{first_fault, table_of}
 use Rattle.st_table.specs.declared.kind.TableKind.TheVariants.{External}
-use Rattle.ingest_app.specs.Convert.{Converted, EndsBytes, EndsNoForm, EndsSource, IsConvertible, IsOfBytes, IsUnconvertible, refused_text, source_limit}
+use Rattle.ingest_app.specs.Convert.{Converted, EndsBytes, EndsNoForm, EndsSource, IsConvertible, IsOfBytes, IsUnconvertible, refused_text}
 use Rattle.ingest_app.specs.Run.{EndsWriting, Writes, not_yet_text}
 use Rattle.ingest_app.specs.declared.conversions.Conversion.{Conversion}
 use Rattle.ingest_app.specs.declared.conversions.Conversion.TheVariants.{Build, Show}
@@ -20,12 +21,12 @@ use Rattle.ingest_app.specs.declared.status.Status.{Status}
 use Rattle.ingest_app.specs.declared.status.Status.TheVariants.{Done, Refused, Memory, InputFault, DiskFault, SinkFault, Script, Damaged, NotYet}
 
 -- bytes past the limit of a source are past that of a table
-pub long_table : (bytes : List ℕ) → source_limit < length bytes → first_fault bytes External ≡ Some TooLarge
+pub long_table : (bytes : List ℕ) → SOURCE_BYTES < length bytes → first_fault bytes External ≡ Some TooLarge
 unfolding table_of footer_of
 long_table bytes long = let is : nat_lt (greatest_size External) (length bytes) ≡ true = grind (arith, nat_tests) in rw is refl
 
 -- so they are shown as too large
-pub long_shown : (bytes : List ℕ) (status : Status) (text : List ℕ) → source_limit < length bytes → status ≡ Refused → text ≡ refused_text (codes "TooLarge") → EndsBytes Show bytes status text
+pub long_shown : (bytes : List ℕ) (status : Status) (text : List ℕ) → SOURCE_BYTES < length bytes → status ≡ Refused → text ≡ refused_text (codes "TooLarge") → EndsBytes Show bytes status text
 long_shown bytes status text long is printed =
     subst (λ (s : Status). EndsBytes Show bytes s text) (sym is) (record { fault = TooLarge; found = long_table bytes long; printed = printed })
 

@@ -2,6 +2,7 @@
 use Rattle.std.proofs.Common.{◌≡◌, inl, ℕ, ◌<◌, ◌≤◌, Bool, true, false, List, [], ◌∷◌, ◌++◌, length, Option, Some, None, IsFalse, refl, sym, ◌∙◌, ap, subst}
 use Rattle.std.specs.Prelude.{Result, Ok, Err, ◌↔◌}
 use Rattle.std.proofs.lemmas.Bool.{le-leb, lt-leb}
+use Rattle.st_base.specs.declared.limits.TheConstants.{SOURCE_BYTES}
 use Rattle.st_base.specs.Rows.{last_key}
 use Rattle.st_base.specs.declared.entry.Entry.{Entry}
 use Rattle.st_base.specs.declared.entry.Mark.{Mark}
@@ -19,7 +20,7 @@ use Rattle.build_text.specs.declared.fault.BuildFault.TheVariants as build
 use Rattle.build_text.specs.Words.{text_parts}
 use Rattle.build_text.specs.Build.{GivesEntries, GivesMore, build_of, entries_from, is_above, is_within, some_entries, unnumbered, with_line_entry}
 use Rattle.build_text.proofs.Building.{build_begin, entry_added, entry_not_fitting, entry_not_rising, some_stay}
-use Rattle.ingest_app.specs.Convert.{EndsBytes, GivesTable, build_cause, fault_at, fit_table, refused_text, source_limit, unfinished}
+use Rattle.ingest_app.specs.Convert.{EndsBytes, GivesTable, build_cause, fault_at, fit_table, refused_text, unfinished}
 use Rattle.ingest_app.specs.declared.conversions.Conversion.TheVariants.{Build}
 use Rattle.ingest_app.specs.declared.status.Status.{Status}
 use Rattle.ingest_app.specs.declared.status.Status.TheVariants.{Refused}
@@ -99,7 +100,7 @@ fault-gives build.NoEntry reading other h = h
 fault-gives build.OutOfMemory reading other h = absurd (other refl)
 
 -- and is refused by its fault
-pub refused_build : (bytes cause text : List ℕ) (fault : BuildFault) (status : Status) → length bytes ≤ source_limit → GivesTable (Err fault) (build_of fit_table bytes) → (fault ≡ build.OutOfMemory → ⊥) → cause ≡ build_cause fault → status ≡ Refused → text ≡ refused_text cause
+pub refused_build : (bytes cause text : List ℕ) (fault : BuildFault) (status : Status) → length bytes ≤ SOURCE_BYTES → GivesTable (Err fault) (build_of fit_table bytes) → (fault ≡ build.OutOfMemory → ⊥) → cause ≡ build_cause fault → status ≡ Refused → text ≡ refused_text cause
     → EndsBytes Build bytes status text
 refused_build bytes cause text fault status short gives other is refused printed =
     subst (λ (s : Status). EndsBytes Build bytes s text) (sym refused)

@@ -2,6 +2,7 @@
 use Rattle.std.specs.Prelude.{ℕ, ◌≡◌, ◌⊎◌, nat_lt, length, List, [], ◌∷◌, ◌++◌, map, flat_map, true, false, Bool, codes}
 use Rattle.std.specs.Prelude.{if◌then◌else◌, Option, Some, None, Result, Ok, Err}
 use Rattle.std.specs.List.{AllZip, AllByRecursion as Each}
+use Rattle.st_base.specs.declared.limits.TheConstants.{CAPACITY, CLIENT_FILE_BYTES}
 use Rattle.cmd_text.specs.declared.script.Numbered.{Numbered}
 use Rattle.cmd_text.specs.Script.{script_of}
 use Rattle.st_device.specs.Disk.{Image, DiskTold, IsHonest, Leaves}
@@ -23,18 +24,10 @@ use Rattle.ingest_app.specs.Crash.{IsOfRun, state_now}
 use Rattle.ingest_app.specs.declared.status.Status.{Status}
 use Rattle.ingest_app.specs.declared.status.Status.TheVariants.{Done, DiskFault}
 
--- the greatest length of a client file
-abbrev pub most_file_bytes : ℕ
-most_file_bytes = 33554432
-
--- the greatest charge of the store
-abbrev pub capacity : ℕ
-capacity = 1073741824
-
 -- the commands of a client's file, or the number of its first faulty line, which is 0 where it isn't there or too long
 abbrev pub client_script : Option (List ℕ) → Result (List Numbered) ℕ
 client_script None = Err 0
-client_script (Some text) = if nat_lt most_file_bytes (length text) then Err 0 else script_of text
+client_script (Some text) = if nat_lt CLIENT_FILE_BYTES (length text) then Err 0 else script_of text
 
 -- a client: its name, and the commands of its file
 pub record ClientScript : Type 0 where
@@ -72,7 +65,7 @@ pub record AnswersClient (client : ClientScript) (calls : List Call) : Type 0 wh
 pub record AreTranscriptsOf (clients : List ClientScript) (text : List ℕ) (opening : ModelState) (failed : Bool)
     (transcripts : List (List Call)) : Type 0 where
   pub answered : AllZip AnswersClient clients transcripts
-  pub legal : IsLegal opening capacity transcripts 0 failed
+  pub legal : IsLegal opening CAPACITY transcripts 0 failed
   pub printed : text ≡ transcripts_text clients transcripts
 
 -- ---- a run

@@ -4,6 +4,7 @@ use Rattle.std.specs.Prelude.{◌⊎◌, Option, Some, None, Result, Ok, Err}
 use Rattle.std.specs.Fmt.{decimal}
 use Rattle.st_base.specs.Bytes.{same}
 use Rattle.st_base.specs.Count.{Rose}
+use Rattle.st_base.specs.declared.limits.TheConstants.{SOURCE_BYTES}
 use Rattle.st_base.specs.Faults.{printed_table_fault}
 use Rattle.st_base.specs.declared.entry.Entry.{Entry}
 use Rattle.st_base.specs.declared.faults.TableFault.{TableFault}
@@ -53,31 +54,27 @@ build_cause build.OutOfMemory = []
 
 -- ---- what is made of bytes
 
--- the greatest size of a source, in bytes
-abbrev pub source_limit : ℕ
-source_limit = 268435456
-
 -- the entries fit one external table
 abbrev pub fit_table : List Entry → Bool
 fit_table entries = nat_le (length (written_table External entries)) (greatest_size External)
 
 -- the bytes are a build text, and the text is the table of its entries
 pub record IsBuilt (bytes text : List ℕ) : Type 0 where
-  pub short : length bytes ≤ source_limit
+  pub short : length bytes ≤ SOURCE_BYTES
   pub entries : List Entry
   pub read : build_of fit_table bytes ≡ Ok entries
   pub written : text ≡ written_table External entries
 
 -- the bytes are no build text of a table, and the text names the first fault
 pub record IsFaultyBuild (bytes text : List ℕ) : Type 0 where
-  pub short : length bytes ≤ source_limit
+  pub short : length bytes ≤ SOURCE_BYTES
   pub fault : BuildFault
   pub read : build_of fit_table bytes ≡ Err fault
   pub printed : text ≡ refused_text (build_cause fault)
 
 -- the bytes are too many for a build text
 pub record IsLongBuild (bytes text : List ℕ) : Type 0 where
-  pub long : source_limit < length bytes
+  pub long : SOURCE_BYTES < length bytes
   pub printed : text ≡ refused_text (codes "0 TooLong")
 
 -- the bytes are an external table, and the text is the build text of its entries

@@ -2,6 +2,7 @@
 use Rattle.std.specs.Prelude.{ℕ, not, ◌≤◌, length, List, map, filter, fold, Option, Some, if◌then◌else◌}
 use Rattle.st_base.specs.Bytes.{same, default_family}
 use Rattle.st_base.specs.declared.entry.Mark.{Mark}
+use Rattle.st_base.specs.declared.limits.TheConstants.{WRITE_BYTES, WRITE_OPERATIONS}
 use Rattle.st_model.specs.declared.change.Op.{Op}
 use Rattle.st_model.specs.Apply.{op_family, op_key, op_mark}
 use Rattle.st_wal.specs.Batch.{Operation, operations_size}
@@ -29,5 +30,5 @@ logged_op op = (0, op_key op, op_mark op)
 -- the limits of a write: 1 to 1,000 operations, whose keys and values have at most 2,097,152 bytes together
 pub record IsWrite (ops : List Op) : Type 0 where
   pub some : 1 ≤ length ops
-  pub count : length ops ≤ 1000
-  pub size : operations_size (map logged_op ops) ≤ 2097152
+  pub count : length ops ≤ WRITE_OPERATIONS
+  pub size : operations_size (map logged_op ops) ≤ WRITE_BYTES

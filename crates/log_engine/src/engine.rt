@@ -16,7 +16,7 @@ ghost use Rattle.log_engine.specs.Op.{marks_after_all};
 use crate::ChangeFault;
 use crate::store::{MarkStore, PreparedWrite};
 use log_recover::{OpenFault, recover};
-use st_base::{Family, Key, Value};
+use st_base::{Family, GREATEST_NUMBER, Key, Value};
 use st_device::Disk;
 use st_model::{Batch, Refusal, Reply};
 use st_wal::{LogRecord, Operation, Wal};
@@ -141,8 +141,8 @@ impl<D: Disk> Engine<D> {
     ) -> Result<AcceptedWrite, ChangeFault>
         requires tied { IsHonest (D.tells self.old.disk) → IsTied self.old.wal self.old.store (D.tells self.old.disk) }
         requires room { Each (λ operation. HasRoom self.old.store.newest operation.1) ops.items }
-        requires last { self.old.store.last + length ops.items ≤ 72057594037927935 }
-        requires place { self.old.store.place < 72057594037927935 }
+        requires last { self.old.store.last + length ops.items ≤ GREATEST_NUMBER }
+        requires place { self.old.store.place < GREATEST_NUMBER }
         ensures log { IsHonest (D.tells self.old.disk) → OnlyFile self.old.wal.log.file
             (λ this. IsWithOrWithout (operations self.old.wal (D.tells self.old.disk))
             (logged_record self.old.wal.log.at encoded.now) (read_as_log this))

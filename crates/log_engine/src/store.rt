@@ -17,13 +17,10 @@ ghost use Rattle.st_wal.specs.Batch.{batch_of};
 use crate::newest::Newest;
 use crate::ops::{charge_with, first_stranger, logged_ops};
 use crate::{AcceptedWrite, ChangeFault, Options};
-use st_base::{Family, Key, List, Mark, Value};
+use st_base::{Family, GREATEST_NUMBER, Key, List, Mark, Value};
 use st_model::{Op, Refusal, Reply};
 use st_wal::{LogRecord, Logged, Operation};
 use std::alloc::{AllocError, Global};
-
-/// The greatest sequence number and the greatest place: 2^56 - 1.
-const GREATEST_NUMBER: u64 = 72_057_594_037_927_935;
 
 /// What the engine knows of its store without the disk.
 #[derive(Drop)]
