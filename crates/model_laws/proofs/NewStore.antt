@@ -1,7 +1,9 @@
 -- A new store is sound.
-use Rattle.std.proofs.Common.{◌≡◌, ℕ, ◌+◌, ◌<◌, ◌≤◌, Bool, true, List, [], ◌∷◌, length, get_or, refl, arith, AllPairs}
-use Rattle.st_base.specs.Bytes.{default_family}
+use Rattle.std.proofs.Common.{◌≡◌, ℕ, ◌+◌, ◌<◌, ◌≤◌, Bool, true, List, [], ◌∷◌, length, get_or, refl, arith, AllPairs, IsTrue}
+use Rattle.st_base.specs.Bytes.{below, default_family}
+use Rattle.st_base.specs.declared.entry.Mark.{Mark}
 use Rattle.st_model.specs.declared.state.ModelFamily.{ModelFamily}
+use Rattle.st_model.specs.declared.state.Snapshot.{Snapshot}
 use Rattle.st_model.specs.Sound.{IsSound}
 use Rattle.st_model.specs.State.{new_family, new_store}
 use Rattle.model_laws.specs.Claims.{NewIsSound}
@@ -15,14 +17,14 @@ nothing R i j d lt within = absurd (let no_place : ⊥ = omega (arith, within) i
 
 pub new_is_sound : NewIsSound
 new_is_sound behind = record {
-  names = no_pairs _ (default_family, new_family 0);
-  bases = (nothing _, tt);
+  names = no_pairs {X = List ℕ × ModelFamily} (λ one other. IsTrue (below one.0 other.0)) (default_family, new_family 0);
+  bases = (nothing {X = List ℕ × Mark} (λ one other. IsTrue (below one.0 other.0)), tt);
   writes = (tt, tt);
   live = tt;
-  snapshots = nothing _;
+  snapshots = nothing {X = Snapshot} (λ one other. one.id < other.id);
   above = tt;
   taken = tt;
-  ids = no_pairs _ (default_family, new_family 0);
+  ids = no_pairs {X = List ℕ × ModelFamily} (λ one other. one.1.id ≡ other.1.id → ⊥) (default_family, new_family 0);
   next = (omega arith, tt);
   unranged = λ without. (refl, tt);
 }

@@ -1,4 +1,5 @@
-//! Laws of the list model, which no other crate rests on: they say that its definitions mean what they are to mean.
+//! Laws of the list model: they say that its definitions mean what they are to mean. The top call's proof uses one, that a
+//! legal run grows by a right answer.
 //!
 //! Each law is the contract of a function without a body. The worked rows stand in `proofs/`, as transcripts: each is legal,
 //! and isn't with one place, number, level, value or refusal changed.

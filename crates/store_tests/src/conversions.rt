@@ -1,5 +1,5 @@
 // Build texts and tables.
-use crate::outside::{NONE, built, disk, make_outside};
+use crate::outside::{NONE, built, converted, run_source};
 use ingest_app::Status;
 use st_base::Bytes;
 use std::alloc::{AllocError, Global};
@@ -14,10 +14,8 @@ fn expect(
     status: Status,
     text: &[u8],
 ) -> Result<(), Fail> {
-    let mut outside = make_outside(rt.alloc(), form, "", bytes, NONE)?;
-    let found = outside.convert(rt.alloc());
-    assert!(rt; found == status, "{form}");
-    assert!(rt; outside.written() == text, "{form}");
+    let ended = converted(rt.alloc(), form, bytes, NONE)?;
+    assert!(rt; ended.is(status, text), "{form}");
     Ok(())
 }
 
@@ -139,10 +137,7 @@ fn damaged_tables(rt: HostRuntime) -> Result<(), Fail> {
 #[test]
 fn run_converts(rt: HostRuntime) -> Result<(), Fail> {
     let table = built(&rt, b"put a 1\n")?;
-    let mut outside = make_outside(rt.alloc(), "build", "", b"put a 1\n", NONE)?;
-    let disk = disk(rt.alloc(), 0)?;
-    let (status, _) = outside.run(rt.alloc(), disk);
-    assert!(rt; status == Status::Done);
-    assert!(rt; outside.written() == table.as_slice());
+    let ended = run_source(rt.alloc(), "build", b"put a 1\n")?;
+    assert!(rt; ended.is(Status::Done, table.as_slice()));
     expect(&rt, "gen", b"", Status::NotYet, b"notyet\n")
 }

@@ -1,5 +1,5 @@
 // A disk fault stops the store, and every image of a crash then has whole writes.
-use crate::outside::{NONE, Outside, disk, make_outside};
+use crate::outside::{NONE, disk, run_over};
 use ingest_app::Status;
 use st_device::{Fate, MemDisk};
 use std::alloc::{AllocError, Global};
@@ -22,17 +22,10 @@ fn left_by_crash(alloc: Global, disk: &MemDisk, fate: Fate) -> Result<MemDisk, A
     disk.after_crash(alloc, disk.moment(), &[fate; 40], Vec::new(alloc))
 }
 
-// Whether the run over the disk answers one of these.
-fn answers_either(
-    outside: &mut Outside,
-    alloc: Global,
-    disk: MemDisk,
-    before: &str,
-    after: &str,
-) -> bool {
-    let (status, _) = outside.run(alloc, disk);
-    let read = outside.written();
-    status == Status::Done && (read == before.as_bytes() || read == after.as_bytes())
+// Whether `get default a` over the disk is answered by one of these.
+fn reads_either(alloc: Global, disk: MemDisk, before: &str, after: &str) -> Result<bool, Fail> {
+    let (ended, _) = run_over(alloc, "run one", "get default a\n", NONE, disk)?;
+    Ok(ended.is(Status::Done, before.as_bytes()) || ended.is(Status::Done, after.as_bytes()))
 }
 
 // A crash of the disk now, with each of these fates of its writes, leaves a store in which `get default a` is answered by
@@ -45,9 +38,8 @@ fn reads_as(
     after: &str,
 ) -> Result<(), Fail> {
     for fate in fates {
-        let mut outside = make_outside(rt.alloc(), "run one", "get default a\n", b"", NONE)?;
         let left = left_by_crash(rt.alloc(), disk, *fate)?;
-        let right = answers_either(&mut outside, rt.alloc(), left, before, after);
+        let right = reads_either(rt.alloc(), left, before, after)?;
         assert!(rt; right, "{before}{after}");
     }
     Ok(())
@@ -59,11 +51,8 @@ fn a_fault_stops_the_store(rt: HostRuntime) -> Result<(), Fail> {
     let text = "put default a 1\nput default a 2\nput default a 3\nget default a\n";
     let written =
         "client one\n1 written 1\n1 refused 20 DiskFault\n1 refused 10 Stopped\n1 value 1\n";
-    let mut outside = make_outside(rt.alloc(), "run one", text, b"", NONE)?;
-    let disk = disk(rt.alloc(), 19)?;
-    let (found, disk) = outside.run(rt.alloc(), disk);
-    assert!(rt; found == Status::DiskFault);
-    assert!(rt; outside.written() == written.as_bytes());
+    let (ended, disk) = run_over(rt.alloc(), "run one", text, NONE, disk(rt.alloc(), 19)?)?;
+    assert!(rt; ended.is(Status::DiskFault, written.as_bytes()));
     reads_as(&rt, &disk, &[Fate::Whole, Fate::Lost], READ_ONE, READ_TWO)
 }
 
@@ -105,11 +94,9 @@ fn reads_after(written: &[u8]) -> Option<(&'static str, &'static str)> {
 
 // The writes are stopped at this device call.
 fn stop_at(rt: &(impl Abort + AllocGlobal), call: u64) -> Result<(), Fail> {
-    let mut outside = make_outside(rt.alloc(), "run one", WRITES, b"", NONE)?;
-    let disk = disk(rt.alloc(), call)?;
-    let (_, disk) = outside.run(rt.alloc(), disk);
+    let (ended, disk) = run_over(rt.alloc(), "run one", WRITES, NONE, disk(rt.alloc(), call)?)?;
     let fates = [Fate::Whole, Fate::Lost, Fate::Cut(1), Fate::Filled(1)];
-    match reads_after(outside.written()) {
+    match reads_after(ended.written.as_slice()) {
         Some((before, after)) => reads_as(rt, &disk, &fates, before, after),
         None => Err(Fail::new("another transcript")),
     }

@@ -1,5 +1,5 @@
 // Each call of what a run reads and writes fails in turn.
-use crate::outside::{Failing, built, disk, make_outside};
+use crate::outside::{Failing, built, converted, run_new};
 use ingest_app::Status;
 use std::process::Abort;
 use std::test::Fail;
@@ -19,11 +19,8 @@ fn a_run_names_its_fault(rt: HostRuntime) -> Result<(), Fail> {
             source: 0,
             sink,
         };
-        let mut outside = make_outside(rt.alloc(), "run one", ROW, b"", failing)?;
-        let disk = disk(rt.alloc(), 0)?;
-        let (found, _) = outside.run(rt.alloc(), disk);
-        assert!(rt; found == status, "{input} {sink}");
-        assert!(rt; outside.written() == written.as_bytes(), "{input} {sink}");
+        let ended = run_new(rt.alloc(), "run one", ROW, failing, 0)?;
+        assert!(rt; ended.is(status, written.as_bytes()), "{input} {sink}");
     }
     Ok(())
 }
@@ -44,13 +41,8 @@ fn conversion_faults(
             source,
             sink,
         };
-        let mut outside = make_outside(rt.alloc(), form, "", bytes, failing)?;
-        let found = outside.convert(rt.alloc());
-        assert!(rt; found == status, "{form} {source} {sink}");
-        assert!(rt;
-            outside.written() == written.as_bytes(),
-            "{form} {source} {sink}"
-        );
+        let ended = converted(rt.alloc(), form, bytes, failing)?;
+        assert!(rt; ended.is(status, written.as_bytes()), "{form} {source} {sink}");
     }
     Ok(())
 }

@@ -22,9 +22,9 @@ pub const NONE: Failing = Failing {
     sink: 0,
 };
 
-/// A command line, one client file, a source and a sink.
+// A command line, one client file, a source and a sink.
 #[derive(Drop)]
-pub struct Outside {
+struct Outside {
     words: Vec<String>,
     inputs: MemInputs,
     source: MemSource,
@@ -54,8 +54,8 @@ fn source(alloc: Global, bytes: &[u8], failing: u64) -> Result<MemSource, AllocE
     Ok(MemSource::new(Bytes::from_slice(alloc, bytes)?, failing))
 }
 
-/// A command line over a client file `one` of this text and a source of these bytes.
-pub fn make_outside(
+// A command line over a client file `one` of this text and a source of these bytes.
+fn make_outside(
     alloc: Global,
     line: &str,
     text: &str,
@@ -75,8 +75,8 @@ pub fn make_outside(
 }
 
 impl Outside {
-    /// Runs the words over a disk.
-    pub fn run(&mut self, alloc: Global, disk: MemDisk) -> (Status, MemDisk) {
+    // Runs the words over a disk.
+    fn run(&mut self, alloc: Global, disk: MemDisk) -> (Status, MemDisk) {
         run(
             alloc,
             self.words.as_slice(),
@@ -87,8 +87,8 @@ impl Outside {
         )
     }
 
-    /// Converts the source.
-    pub fn convert(&mut self, alloc: Global) -> Status {
+    // Converts the source.
+    fn convert(&mut self, alloc: Global) -> Status {
         convert(
             alloc,
             self.words.as_slice(),
@@ -97,8 +97,8 @@ impl Outside {
         )
     }
 
-    /// What was written.
-    pub fn written(&self) -> &[u8] {
+    // What was written.
+    fn written(&self) -> &[u8] {
         self.sink.bytes()
     }
 }
@@ -108,10 +108,72 @@ pub fn disk(alloc: Global, failing: u64) -> Result<MemDisk, AllocError> {
     Ok(MemDisk::new(alloc, vec![in alloc; failing]?))
 }
 
+/// How a run or a conversion ended, and what it wrote.
+#[derive(Drop)]
+pub struct Ended {
+    pub status: Status,
+    pub written: Bytes,
+}
+
+impl Ended {
+    /// Whether it ended so, and wrote this.
+    pub fn is(&self, status: Status, written: &[u8]) -> bool {
+        self.status == status && self.written.as_slice() == written
+    }
+}
+
+/// A run of a command line over a disk, with a client file `one` of this text.
+pub fn run_over(
+    alloc: Global,
+    line: &str,
+    text: &str,
+    failing: Failing,
+    disk: MemDisk,
+) -> Result<(Ended, MemDisk), Fail> {
+    let mut outside = make_outside(alloc, line, text, b"", failing)?;
+    let (status, disk) = outside.run(alloc, disk);
+    let written = Bytes::from_slice(alloc, outside.written())?;
+    Ok((Ended { status, written }, disk))
+}
+
+/// The same over a disk without files, whose call of this number fails; the disk is closed.
+pub fn run_new(
+    alloc: Global,
+    line: &str,
+    text: &str,
+    failing: Failing,
+    call: u64,
+) -> Result<Ended, Fail> {
+    let disk = disk(alloc, call)?;
+    let (ended, _) = run_over(alloc, line, text, failing, disk)?;
+    Ok(ended)
+}
+
+/// A run of words that convert a source of these bytes, over a disk without files.
+pub fn run_source(alloc: Global, form: &str, bytes: &[u8]) -> Result<Ended, Fail> {
+    let disk = disk(alloc, 0)?;
+    let mut outside = make_outside(alloc, form, "", bytes, NONE)?;
+    let (status, _) = outside.run(alloc, disk);
+    let written = Bytes::from_slice(alloc, outside.written())?;
+    Ok(Ended { status, written })
+}
+
+/// A conversion of a source of these bytes.
+pub fn converted(
+    alloc: Global,
+    form: &str,
+    bytes: &[u8],
+    failing: Failing,
+) -> Result<Ended, Fail> {
+    let mut outside = make_outside(alloc, form, "", bytes, failing)?;
+    let status = outside.convert(alloc);
+    let written = Bytes::from_slice(alloc, outside.written())?;
+    Ok(Ended { status, written })
+}
+
 /// What `build` makes of a text.
 pub fn built(rt: &(impl Abort + AllocGlobal), text: &[u8]) -> Result<Bytes, Fail> {
-    let mut outside = make_outside(rt.alloc(), "build", "", text, NONE)?;
-    let found = outside.convert(rt.alloc());
-    assert!(rt; found == Status::Done);
-    Ok(Bytes::from_slice(rt.alloc(), outside.written())?)
+    let ended = converted(rt.alloc(), "build", text, NONE)?;
+    assert!(rt; ended.status == Status::Done);
+    Ok(ended.written)
 }

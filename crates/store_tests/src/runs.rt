@@ -1,7 +1,8 @@
 // Client files over a store.
-use crate::outside::{NONE, disk, make_outside};
+use crate::outside::{NONE, disk, run_new, run_over};
 use ingest_app::Status;
 use st_device::{Disk, MemDisk};
+use std::alloc::{AllocError, Global};
 use std::test::Fail;
 
 const ROW: &str = "put default a 1\nget default a\ndel default a\nget default a\n";
@@ -49,11 +50,8 @@ fn rows(rt: HostRuntime) -> Result<(), Fail> {
         ),
         ("run two", ROW, Status::Script, "script two 0\n"),
     ] {
-        let mut outside = make_outside(rt.alloc(), line, text, b"", NONE)?;
-        let disk = disk(rt.alloc(), 0)?;
-        let (found, _) = outside.run(rt.alloc(), disk);
-        assert!(rt; found == status, "{line}: {text}");
-        assert!(rt; outside.written() == written.as_bytes(), "{line}: {text}");
+        let ended = run_new(rt.alloc(), line, text, NONE, 0)?;
+        assert!(rt; ended.is(status, written.as_bytes()), "{line}: {text}");
     }
     Ok(())
 }
@@ -74,24 +72,53 @@ fn each_run_reads_those_before_it(rt: HostRuntime) -> Result<(), Fail> {
             "client one\n0 none\n0 value 2\n",
         ),
     ] {
-        let mut outside = make_outside(rt.alloc(), "run one", text, b"", NONE)?;
-        let (found, after) = outside.run(rt.alloc(), disk);
+        let (ended, after) = run_over(rt.alloc(), "run one", text, NONE, disk)?;
         disk = after;
-        assert!(rt; found == Status::Done, "{text}");
-        assert!(rt; outside.written() == written.as_bytes(), "{text}");
+        assert!(rt; ended.is(Status::Done, written.as_bytes()), "{text}");
     }
     Ok(())
 }
 
-// A mark without a log.
+// A disk with a mark and no log.
+fn marked(alloc: Global) -> Result<MemDisk, Fail> {
+    let mut disk = disk(alloc, 0)?;
+    match disk.create(1) {
+        Ok(()) => Ok(disk),
+        Err(_) => Err(Fail::new("the mark isn't made")),
+    }
+}
+
 #[test]
 fn a_store_without_its_log_is_damaged(rt: HostRuntime) -> Result<(), Fail> {
-    let mut outside = make_outside(rt.alloc(), "run one", ROW, b"", NONE)?;
-    let mut disk = MemDisk::new(rt.alloc(), Vec::new(rt.alloc()));
-    let created = disk.create(1);
-    let (found, _) = outside.run(rt.alloc(), disk);
-    assert!(rt; created.is_ok());
-    assert!(rt; found == Status::Damaged);
-    assert!(rt; outside.written() == b"damaged 3 0\n".as_slice());
+    let (ended, _) = run_over(rt.alloc(), "run one", ROW, NONE, marked(rt.alloc())?)?;
+    assert!(rt; ended.is(Status::Damaged, b"damaged 3 0\n"));
+    Ok(())
+}
+
+// A client file that prints 16,777,132 bytes behind the first line, and 7 more for each of so many reads of nothing.
+fn long_script(alloc: Global, reads: usize) -> Result<String, AllocError> {
+    let mut text = "put default a ".to_string(alloc)?;
+    for _ in 0..1_048_561 {
+        text.push('v')?;
+    }
+    text.push('\n')?;
+    for _ in 0..16 {
+        text.push_str("get default a\n")?;
+    }
+    for _ in 0..reads {
+        text.push_str("get default b\n")?;
+    }
+    Ok(text)
+}
+
+// A read behind 16,777,216 bytes is cut, and one behind fewer isn't.
+#[test]
+fn reads_of_a_long_transcript_are_cut(rt: HostRuntime) -> Result<(), Fail> {
+    for (reads, end) in [(12, "1 none\n1 none\n"), (13, "1 none\n1 long\n")] {
+        let text = long_script(rt.alloc(), reads)?;
+        let ended = run_new(rt.alloc(), "run one", text.as_str(), NONE, 0)?;
+        assert!(rt; ended.status == Status::Done, "{reads}");
+        assert!(rt; ended.written.as_slice().ends_with(end.as_bytes()), "{reads}");
+    }
     Ok(())
 }
