@@ -96,6 +96,17 @@ fn many_files(rt: &HostRuntime, disk: &mut FolderDisk<HostRuntime>) -> Result<bo
     Ok(first && again && changed && disk.files(rt.alloc())?.len() == 21)
 }
 
+// One program has the folder at a time.
+#[test]
+fn a_folder_is_locked(rt: HostRuntime) -> Result<(), Fail> {
+    let mut disk = FolderDisk::new(rt.clone()?);
+    let mut other = FolderDisk::new(rt.clone()?);
+    assert!(rt; are_named(rt.alloc(), &mut disk, &[])?);
+    assert!(rt; other.length(2).is_err());
+    assert!(rt; other.faults() == 1);
+    Ok(())
+}
+
 #[test]
 fn a_folder_keeps_files(rt: HostRuntime) -> Result<(), Fail> {
     let mut disk = FolderDisk::new(rt.clone()?);

@@ -5,8 +5,8 @@ use Rattle.std.specs.List.{IsDistinct, AllByRecursion as Each}
 use Rattle.std.proofs.lemmas.List.{length-map}
 use Rattle.base_laws.proofs.Lists.{each_as, each_push}
 use Rattle.st_base.specs.declared.limits.TheConstants.{CAPACITY}
-use Rattle.st_device.specs.Disk.{Image, DiskTold, IsHonest, Leaves, Passes}
-use Rattle.st_device.proofs.Moments.{leaves_then}
+use Rattle.st_device.specs.Disk.{Clock, Image, DiskTold, IsHonest, Leaves, Passes}
+use Rattle.st_device.proofs.Moments.{since_then}
 use Rattle.log_engine.specs.Engine.{OpensTo}
 use Rattle.log_engine.specs.MarkStore.{StandsForState}
 use Rattle.log_engine.specs.declared.store.MarkStore.{MarkStore}
@@ -35,7 +35,7 @@ use Rattle.model_laws.specs.Claims.{IsCausedStep, StandsLonger}
 use Rattle.model_laws.proofs.Grow.{begins_legally, causes_grow, legal_grows, stands_grow}
 use Rattle.ingest_app.specs.Answer.{IsOfCall, IsStrangerTold, Prints, EngineSteps, answered_call, asked_alone}
 use Rattle.ingest_app.specs.Client.{transcript}
-use Rattle.ingest_app.specs.Crash.{IsAfterFirst, IsAmong, IsOfRun, IsWithCutOff, state_now}
+use Rattle.ingest_app.specs.Crash.{AreKept, AreMoments, IsAfterFirst, IsAmong, IsOfRun, IsWithCutOff, state_now}
 use Rattle.ingest_app.specs.Op.{IsServed, is_served, refused_family, stranger_of}
 use Rattle.ingest_app.specs.declared.answer.Answer.{Answer}
 use Rattle.ingest_app.proofs.Printed.{transcript_grows, transcript_length}
@@ -57,7 +57,12 @@ pub record Along (name text : List ℕ) (opening : ModelState) (before now : Dis
   pub is : state ≡ state_at opening (calls ∷ []) state.place
   pub unknown : Each IsStrangerTold calls
   pub printed : text ≡ transcript name calls
-  pub crash : IsHonest before → Leaves (IsOfRun opening (calls ∷ [])) before now
+  pub moments : List ℕ
+  pub each_change : length moments ≡ changes_in (calls ∷ [])
+  pub in_turn : AreMoments before.moment now.moment moments
+  pub crash : IsHonest before → Leaves (IsOfRun opening (calls ∷ []) 0) before now
+  pub kept : IsHonest before → AreKept opening (calls ∷ []) now 0 moments
+  pub end : IsHonest before → (image : Image) → now.now image → IsOfRun opening (calls ∷ []) (changes_in (calls ∷ [])) image
   pub whole : IsHonest before → stopped ≡ None → (image : Image) → now.now image → OpensTo state image
 
 -- ---- a command that is served
@@ -188,11 +193,11 @@ pub among_end : (call : Call) (xs : List Call) → IsAmong call (xs ++ call ∷ 
 among_end call [] = inl refl
 among_end call (x ∷ xs) = inr (among_end call xs)
 
--- a refusal for a fault isn't among calls without a stop
-no_fault : (call : Call) (calls : List Call) → Each (λ (d : Call). IsFalse (is_stop d.reply)) calls → IsAmong call calls → call.reply ≡ Refused DiskFault → ⊥
-no_fault call [] quiet among is = among
-no_fault call (x ∷ xs) quiet (inl here) is = true≢false (sym (ap is_stop (ap (λ (d : Call). d.reply) here ∙ is)) ∙ quiet.0)
-no_fault call (x ∷ xs) quiet (inr there) is = no_fault call xs quiet.1 there is
+-- what holds of each call holds of one of them
+each_among : (P : Call → Type 0) (call : Call) (calls : List Call) → Each P calls → IsAmong call calls → P call
+each_among P call [] each among = absurd among
+each_among P call (x ∷ xs) each (inl is) = subst P is each.0
+each_among P call (x ∷ xs) each (inr there) = each_among P call xs each.1 there
 
 pub none_of : {X : Type 0} (o : Option X) → is_some o ≡ false → o ≡ None
 none_of None e = refl
@@ -203,6 +208,11 @@ none_of (Some x) e = absurd (true≢false e)
 -- the calls of the only client are all calls
 all_of_one : (calls : List Call) → all_calls (calls ∷ []) ≡ calls
 all_of_one calls = append-nil calls
+
+-- an image with so many changes has fewer too
+fewer : (transcripts : List (List Call)) (few many : ℕ) → few ≤ many → {opening : ModelState} (image : Image) → IsOfRun opening transcripts many image → IsOfRun opening transcripts few image
+fewer transcripts few many le image (inl first) = inl (record { count = first.count; at_least = le_trans le first.at_least; within = first.within; opens = first.opens })
+fewer transcripts few many le image (inr cut) = inr cut
 
 newest_of : (b : Bool) (place changes : ℕ) → place ≡ changes → MatchBool b (place ≡ changes) (place ≤ changes)
 newest_of true place changes e = e
@@ -228,6 +238,9 @@ module _ (opening : ModelState) (was is : Option ℕ) (calls : List Call) (call 
   grown = legal_grows opening CAPACITY 0 0 (is_some was) (is_some is) [] [] calls call state legal here step
       (causes_grow 0 0 (is_some was) (is_some is) [] [] calls call legal.causes caused)
 
+  pub count_of : changes_in ((calls ++ call ∷ []) ∷ []) ≡ changes_in (calls ∷ []) + cond (is_change call.reply) 1 0
+  count_of = longer.count
+
   -- the place that is printed is the number of changes
   place_is : call.place ≡ changes_in ((calls ++ call ∷ []) ∷ [])
   place_is = step.place ∙ ap (λ n. n + cond (is_change call.reply) 1 0) newest ∙ sym longer.count
@@ -252,53 +265,63 @@ module _ (opening : ModelState) (was is : Option ℕ) (calls : List Call) (call 
   after_is : state_now opening ((calls ++ call ∷ []) ∷ []) ≡ after state call
   after_is = ap (state_at opening ((calls ++ call ∷ []) ∷ [])) (sym place_is) ∙ sym longer.is
 
-  -- a call that is no change leaves the state
-  unchanged : is_change call.reply ≡ false → after state call ≡ state
-  unchanged is = ap (λ b. cond b (after_call state call) state) is
-
-  more_first : (image : Image) → IsAfterFirst opening (calls ∷ []) image → IsAfterFirst opening ((calls ++ call ∷ []) ∷ []) image
-  more_first image first = record {
+  more_first : (least : ℕ) (image : Image) → IsAfterFirst opening (calls ∷ []) least image → IsAfterFirst opening ((calls ++ call ∷ []) ∷ []) least image
+  more_first least image first = record {
     count = first.count;
+    at_least = first.at_least;
     within = le_trans first.within count_grows;
     opens = subst (λ (s : ModelState). OpensTo s image) (sym (longer.earlier first.count first.within)) first.opens;
   }
 
-  more_cut : (image : Image) (b : Bool) → is_change call.reply ≡ b → IsWithCutOff opening (calls ∷ []) image → IsOfRun opening ((calls ++ call ∷ []) ∷ []) image
-  more_cut image true is cut = absurd (no_fault cut.call (all_calls (calls ∷ [])) (legal.causes.disk (ap is_some (change is))) cut.among cut.refused)
-  more_cut image false is cut =
-      let same : state_now opening (calls ∷ []) ≡ state_now opening ((calls ++ call ∷ []) ∷ []) = sym state_is ∙ sym (unchanged is) ∙ sym after_is in
-      inr (record {
+  more_cut : (image : Image) → IsWithCutOff opening (calls ∷ []) image → IsWithCutOff opening ((calls ++ call ∷ []) ∷ []) image
+  more_cut image cut =
+      let within : cut.call.place ≤ changes_in (calls ∷ []) = each_among (λ (d : Call). d.place ≤ changes_in (calls ∷ [])) cut.call (all_calls (calls ∷ [])) legal.within cut.among in
+      record {
         call = cut.call;
         among = subst (λ cs. IsAmong cut.call cs) (sym (all_of_one (calls ++ call ∷ []))) (among_front cut.call calls (call ∷ []) (subst (λ cs. IsAmong cut.call cs) (all_of_one calls) cut.among));
         refused = cut.refused;
-        opens = subst (λ (s : ModelState). OpensTo (after_call s cut.call) image) same cut.opens;
-      })
+        opens = subst (λ (s : ModelState). OpensTo (after_call s cut.call) image) (sym (longer.earlier cut.call.place within)) cut.opens;
+      }
 
   -- an image of the run so far
-  pub more_of_run : (image : Image) → IsOfRun opening (calls ∷ []) image → IsOfRun opening ((calls ++ call ∷ []) ∷ []) image
-  more_of_run image (inl first) = inl (more_first image first)
-  more_of_run image (inr cut) = more_cut image (is_change call.reply) refl cut
+  pub more_of_run : (least : ℕ) (image : Image) → IsOfRun opening (calls ∷ []) least image → IsOfRun opening ((calls ++ call ∷ []) ∷ []) least image
+  more_of_run least image (inl first) = inl (more_first least image first)
+  more_of_run least image (inr cut) = inr (more_cut image cut)
 
-  -- an image of the call
-  pub call_of_run : (image : Image) → IsOfCall state call image → IsOfRun opening ((calls ++ call ∷ []) ∷ []) image
-  call_of_run image (inl before) = inl (record {
-    count = changes_in (calls ∷ []);
-    within = count_grows;
-    opens = subst (λ (s : ModelState). OpensTo s image) (sym before_is) before;
-  })
-  call_of_run image (inr (inl later)) = inl (record {
+  -- an image that opens to the state after the call
+  pub after_of_run : (image : Image) → OpensTo (after state call) image → IsOfRun opening ((calls ++ call ∷ []) ∷ []) (changes_in ((calls ++ call ∷ []) ∷ [])) image
+  after_of_run image later = inl (record {
     count = changes_in ((calls ++ call ∷ []) ∷ []);
+    at_least = le_refl (changes_in ((calls ++ call ∷ []) ∷ []));
     within = le_refl (changes_in ((calls ++ call ∷ []) ∷ []));
     opens = subst (λ (s : ModelState). OpensTo s image) (sym after_is) later;
   })
+
+  -- an image of the call has all changes before it
+  pub call_of_run : (image : Image) → IsOfCall state call image → IsOfRun opening ((calls ++ call ∷ []) ∷ []) (changes_in (calls ∷ [])) image
+  call_of_run image (inl before) = inl (record {
+    count = changes_in (calls ∷ []);
+    at_least = le_refl (changes_in (calls ∷ []));
+    within = count_grows;
+    opens = subst (λ (s : ModelState). OpensTo s image) (sym before_is) before;
+  })
+  call_of_run image (inr (inl later)) = fewer ((calls ++ call ∷ []) ∷ []) (changes_in (calls ∷ [])) (changes_in ((calls ++ call ∷ []) ∷ [])) count_grows image (after_of_run image later)
   call_of_run image (inr (inr cut)) =
-      let same : state_now opening ((calls ++ call ∷ []) ∷ []) ≡ state = after_is ∙ unchanged (ap is_change cut.0) in
+      let place : call.place ≡ changes_in (calls ∷ []) = step.place ∙ ap (λ b. state.place + cond b 1 0) (ap is_change cut.0) ∙ (let e : state.place + 0 ≡ state.place = omega arith in e) ∙ newest in
       inr (record {
         call = call;
         among = subst (λ cs. IsAmong call cs) (sym (all_of_one (calls ++ call ∷ []))) (among_end call calls);
         refused = cut.0;
-        opens = subst (λ (s : ModelState). OpensTo (after_call s call) image) (sym same) cut.1;
+        opens = subst (λ (s : ModelState). OpensTo (after_call s call) image) (sym (ap (state_at opening ((calls ++ call ∷ []) ∷ [])) place ∙ before_is)) cut.1;
       })
+
+  -- with a call that is no change there are as many changes
+  same_count : is_change call.reply ≡ false → changes_in ((calls ++ call ∷ []) ∷ []) ≡ changes_in (calls ∷ [])
+  same_count none = longer.count ∙ ap (λ b. changes_in (calls ∷ []) + cond b 1 0) none ∙ (let e : changes_in (calls ∷ []) + 0 ≡ changes_in (calls ∷ []) = omega arith in e)
+
+  -- an image at the end of the call
+  pub end_of_run : (image : Image) → is_change call.reply ≡ false → IsOfRun opening ((calls ++ call ∷ []) ∷ []) (changes_in (calls ∷ [])) image → IsOfRun opening ((calls ++ call ∷ []) ∷ []) (changes_in ((calls ++ call ∷ []) ∷ [])) image
+  end_of_run image none = subst (λ n. IsOfRun opening ((calls ++ call ∷ []) ∷ []) n image) (sym (same_count none))
 
 -- the answer of the engine as a step of the run
 module _ (opening : ModelState) (failed : Bool) (calls : List Call) (state : ModelState) (one : Command) (answer : Answer) (served : IsServed one) (legal : IsLegal opening CAPACITY (calls ∷ []) 0 failed) (newest : state.place ≡ changes_in (calls ∷ []))
@@ -319,13 +342,61 @@ module _ (opening : ModelState) (failed : Bool) (calls : List Call) (state : Mod
     cut = subst (λ n. IsCut n (answered_call one answer)) length_is cut;
   }
 
+-- ---- moments
+
+moments_more : (from until later : ℕ) (moments : List ℕ) → until ≤ later → AreMoments from until moments → AreMoments from later moments
+moments_more from until later [] le within = le_trans within le
+moments_more from until later (moment ∷ moments) le within = (within.0, moments_more moment until later moments le within.1)
+
+moments_push : (from until : ℕ) (moments : List ℕ) → AreMoments from until moments → AreMoments from until (moments ++ until ∷ [])
+moments_push from until [] within = (within, le_refl until)
+moments_push from until (moment ∷ moments) within = (within.0, moments_push moment until moments within.1)
+
+-- a moment more, where the call is a change
+next_moments : (b : Bool) → List ℕ → ℕ → List ℕ
+next_moments b moments moment = cond b (moments ++ moment ∷ []) moments
+
+next_in_turn : (b : Bool) (from until later : ℕ) (moments : List ℕ) → until ≤ later → AreMoments from until moments → AreMoments from later (next_moments b moments later)
+next_in_turn true from until later moments le within = moments_push from later moments (moments_more from until later moments le within)
+next_in_turn false from until later moments le within = moments_more from until later moments le within
+
+next_count : (b : Bool) (moments : List ℕ) (moment old new : ℕ) → length moments ≡ old → new ≡ old + cond b 1 0 → length (next_moments b moments moment) ≡ new
+next_count true moments moment old new count is = length-append moments (moment ∷ []) ∙ ap (λ n. n + 1) count ∙ sym is
+next_count false moments moment old new count is = let e : old ≡ old + 0 = omega arith in count ∙ e ∙ sym is
+
+-- images since an earlier moment have at least as many changes later
+kept_more : (opening : ModelState) (old new : List (List Call)) (mid now : DiskTold) (from before most : ℕ) (moments : List ℕ)
+    → ((least : ℕ) (t : ℕ) (image : Image) → least ≤ most → t ≤ mid.moment → ((image : Image) → mid.since t image → IsOfRun opening old least image) → now.since t image → IsOfRun opening new least image)
+    → before + length moments ≤ most → AreMoments from mid.moment moments → AreKept opening old mid before moments → AreKept opening new now before moments
+kept_more opening old new mid now from before most [] on fits within kept = tt
+kept_more opening old new mid now from before most (moment ∷ moments) on fits within kept = (
+  λ image left. on (before + 1) moment image (omega (arith, fits)) (last_moment moment mid.moment moments within.1) kept.0 left,
+  kept_more opening old new mid now moment (before + 1) most moments on (omega (arith, fits)) within.1 kept.1,
+)
+  where
+    last_moment : (m until : ℕ) (ms : List ℕ) → AreMoments m until ms → m ≤ until
+    last_moment m until [] within = within
+    last_moment m until (n ∷ ms) within = le_trans within.0 (last_moment n until ms within.1)
+
+kept_push : (opening : ModelState) (transcripts : List (List Call)) (now : DiskTold) (before moment : ℕ) (moments : List ℕ) → AreKept opening transcripts now before moments
+    → ((image : Image) → now.since moment image → IsOfRun opening transcripts (before + length moments + 1) image) → AreKept opening transcripts now before (moments ++ moment ∷ [])
+kept_push opening transcripts now before moment [] kept last = (λ image left. subst (λ n. IsOfRun opening transcripts n image) (let e : before + 0 + 1 ≡ before + 1 = omega arith in e) (last image left), tt)
+kept_push opening transcripts now before moment (m ∷ moments) kept last = (
+  kept.0,
+  kept_push opening transcripts now (before + 1) moment moments kept.1
+      (λ image left. subst (λ n. IsOfRun opening transcripts n image) (let e : before + length (m ∷ moments) + 1 ≡ before + 1 + length moments + 1 = omega arith in e) (last image left)),
+)
+
 -- the calls with one more
 module _ {D : Type 0} (tells : D → DiskTold) (name text text' : List ℕ) (opening : ModelState) (before : DiskTold) (mid new : D) (old_store new_store : MarkStore) (was is : Option ℕ) (commands : List Command) (one : Command) (heading : ℕ)
     (first : heading ≡ length (transcript name [])) (served : IsServed one)
     (p : Passes before (tells mid)) (q : Passes (tells mid) (tells new)) (room : old_store.capacity ≡ CAPACITY) (old : Along name text opening before (tells mid) old_store was commands)
-    (more : Prints old_store new_store was is (tells mid) (tells new) one heading text text') (same : (was ≡ None) ⊎ (new ≡ mid)) where
+    (more : Prints old_store new_store was is (tells mid) (tells new) one heading text text') (same : (was ≡ None) ⊎ (new ≡ mid)) (clock : Clock (tells new)) where
   abbrev call : Call
   call = answered_call one more.answer
+
+  abbrev calls' : List Call
+  calls' = old.calls ++ answered_call one more.answer ∷ []
 
   steps : EngineSteps old_store new_store was is (tells mid) (tells new) old.state (answered_call one more.answer)
   steps = more.steps old.state old.stands
@@ -337,29 +408,62 @@ module _ {D : Type 0} (tells : D → DiskTold) (name text text' : List ℕ) (ope
   step = step_of opening (is_some was) old.calls old.state one more.answer served old.legal old.newest old_store new_store was is (tells mid) (tells new) room steps
       (length text - heading) more.cut (transcript_length name old.calls text heading old.printed first)
 
+  -- images since an earlier moment, with those of the call
+  on : IsHonest before → (least t : ℕ) (image : Image) → least ≤ changes_in (old.calls ∷ []) → t ≤ (tells mid).moment → ((image : Image) → (tells mid).since t image → IsOfRun opening (old.calls ∷ []) least image) → (tells new).since t image → IsOfRun opening (calls' ∷ []) least image
+  on honest least t image le earlier so_far left = ⊎_elim
+      (λ (running : was ≡ None). since_then (IsOfRun opening (calls' ∷ []) least) t earlier q
+      (λ x before_it. more_of_run opening was is old.calls (answered_call one more.answer) old.state old.legal old.newest old.is step plain steps.change steps.still least x (so_far x before_it))
+      (λ x during. fewer (calls' ∷ []) least (changes_in (old.calls ∷ [])) le x (call_of_run opening was is old.calls (answered_call one more.answer) old.state old.legal old.newest old.is step plain steps.change steps.still x (steps.crash (p.honest_on honest) running x during)))
+      image left)
+      (λ (is_same : new ≡ mid). more_of_run opening was is old.calls (answered_call one more.answer) old.state old.legal old.newest old.is step plain steps.change steps.still least image (so_far image (subst (λ disk. (tells disk).since t image) is_same left)))
+      same
+
+  -- images at the end of the call
+  end_now : IsHonest before → (o : Option ℕ) → is ≡ o → (image : Image) → (tells new).now image → IsOfRun opening (calls' ∷ []) (changes_in (calls' ∷ [])) image
+  end_now honest None none image now = after_of_run opening was is old.calls (answered_call one more.answer) old.state old.legal old.newest old.is step plain steps.change steps.still image (steps.whole (p.honest_on honest) none image now)
+  end_now honest (Some stop) some image now =
+      let none : is_change more.answer.reply ≡ false = steps.stopped (ap is_some some) in
+      end_of_run opening was is old.calls (answered_call one more.answer) old.state old.legal old.newest old.is step plain steps.change steps.still image none
+      (⊎_elim
+      (λ (running : was ≡ None). call_of_run opening was is old.calls (answered_call one more.answer) old.state old.legal old.newest old.is step plain steps.change steps.still image (steps.crash (p.honest_on honest) running image (q.ends image now)))
+      (λ (is_same : new ≡ mid). more_of_run opening was is old.calls (answered_call one more.answer) old.state old.legal old.newest old.is step plain steps.change steps.still (changes_in (old.calls ∷ [])) image (old.end honest image (subst (λ disk. (tells disk).now image) is_same now)))
+      same)
+
+  -- from now on no image lacks the change
+  kept_now : IsHonest before → (b : Bool) → is_change more.answer.reply ≡ b → AreKept opening (calls' ∷ []) (tells new) 0 (next_moments b old.moments (tells new).moment)
+  kept_now honest b change =
+      let so_far : AreKept opening (calls' ∷ []) (tells new) 0 old.moments =
+      kept_more opening (old.calls ∷ []) (calls' ∷ []) (tells mid) (tells new) before.moment 0 (changes_in (old.calls ∷ [])) old.moments (on honest) (le_of_eq old.each_change) old.in_turn (old.kept honest) in
+      go b change so_far
+    where
+      go : (b : Bool) → is_change more.answer.reply ≡ b → AreKept opening (calls' ∷ []) (tells new) 0 old.moments → AreKept opening (calls' ∷ []) (tells new) 0 (next_moments b old.moments (tells new).moment)
+      go false change so_far = so_far
+      go true change so_far =
+          let count : changes_in (calls' ∷ []) ≡ 0 + length old.moments + 1 = count_of opening was is old.calls (answered_call one more.answer) old.state old.legal old.newest old.is step plain steps.change steps.still ∙ ap (λ b. changes_in (old.calls ∷ []) + cond b 1 0) change ∙ ap (λ n. n + 1) (sym old.each_change) in
+          kept_push opening (calls' ∷ []) (tells new) 0 (tells new).moment old.moments so_far
+          (λ image left. subst (λ n. IsOfRun opening (calls' ∷ []) n image) count (end_now honest is refl image (clock.only_now image left)))
+
   pub along_grows : Along name text' opening before (tells new) new_store is (commands ++ one ∷ [])
-  along_grows =
-      let calls' : List Call = old.calls ++ answered_call one more.answer ∷ [] in
-      let weaker : IsHonest before → Leaves (IsOfRun opening (calls' ∷ [])) before (tells mid) = λ honest image left.
-      more_of_run opening was is old.calls (answered_call one more.answer) old.state old.legal old.newest old.is step plain steps.change steps.still image (old.crash honest image left) in
-      record {
-        calls = calls';
-        answers = old.answers ++ (more.answer.place, more.answer.reply) ∷ [];
-        are = are_more commands old.answers old.calls one more.answer served old.are;
-        state = after old.state (answered_call one more.answer);
-        stands = steps.stands;
-        legal = grown opening was is old.calls (answered_call one more.answer) old.state old.legal old.newest old.is step plain steps.change steps.still;
-        newest = newest_now opening was is old.calls (answered_call one more.answer) old.state old.legal old.newest old.is step plain steps.change steps.still;
-        is = here_now opening was is old.calls (answered_call one more.answer) old.state old.legal old.newest old.is step plain steps.change steps.still;
-        unknown = each_push IsStrangerTold old.calls (answered_call one more.answer) old.unknown steps.unknown;
-        printed = transcript_grows name old.calls (answered_call one more.answer) text' text old.printed more.printed;
-        crash = λ honest. ⊎_elim
-            (λ (running : was ≡ None). leaves_then (IsOfRun opening (calls' ∷ [])) p q (weaker honest)
-            (λ image left. call_of_run opening was is old.calls (answered_call one more.answer) old.state old.legal old.newest old.is step plain steps.change steps.still image (steps.crash (p.honest_on honest) running image left)))
-            (λ (is_same : new ≡ mid). subst (λ disk. Leaves (IsOfRun opening (calls' ∷ [])) before (tells disk)) (sym is_same) (weaker honest))
-            same;
-        whole = λ honest running image now. steps.whole (p.honest_on honest) running image now;
-      }
+  along_grows = record {
+    calls = calls';
+    answers = old.answers ++ (more.answer.place, more.answer.reply) ∷ [];
+    are = are_more commands old.answers old.calls one more.answer served old.are;
+    state = after old.state (answered_call one more.answer);
+    stands = steps.stands;
+    legal = grown opening was is old.calls (answered_call one more.answer) old.state old.legal old.newest old.is step plain steps.change steps.still;
+    newest = newest_now opening was is old.calls (answered_call one more.answer) old.state old.legal old.newest old.is step plain steps.change steps.still;
+    is = here_now opening was is old.calls (answered_call one more.answer) old.state old.legal old.newest old.is step plain steps.change steps.still;
+    unknown = each_push IsStrangerTold old.calls (answered_call one more.answer) old.unknown steps.unknown;
+    printed = transcript_grows name old.calls (answered_call one more.answer) text' text old.printed more.printed;
+    moments = next_moments (is_change more.answer.reply) old.moments (tells new).moment;
+    each_change = next_count (is_change more.answer.reply) old.moments (tells new).moment (changes_in (old.calls ∷ [])) (changes_in (calls' ∷ [])) old.each_change
+        (count_of opening was is old.calls (answered_call one more.answer) old.state old.legal old.newest old.is step plain steps.change steps.still);
+    in_turn = next_in_turn (is_change more.answer.reply) before.moment (tells mid).moment (tells new).moment old.moments q.later old.in_turn;
+    crash = λ honest image left. on honest 0 before.moment image zero-le p.later (old.crash honest) left;
+    kept = λ honest. kept_now honest (is_change more.answer.reply) refl;
+    end = λ honest. end_now honest is refl;
+    whole = λ honest running image now. steps.whole (p.honest_on honest) running image now;
+  }
 
 -- before the first call
 pub along_start : (name text : List ℕ) (opening : ModelState) (before : DiskTold) (store : MarkStore) (stopped : Option ℕ) → text ≡ transcript name [] → StandsForState store opening → IsOpening opening → stopped ≡ None
@@ -377,7 +481,12 @@ along_start name text opening before store stopped printed stands fresh running 
       is = sym begins.1 ∙ ap (state_at opening ([] ∷ [])) (sym fresh.place);
       unknown = tt;
       printed = printed;
-      crash = λ honest image left. inl (record { count = 0; within = zero-le; opens = leaves honest image left });
+      moments = [];
+      each_change = refl;
+      in_turn = le_refl before.moment;
+      crash = λ honest image left. inl (record { count = 0; at_least = zero-le; within = zero-le; opens = leaves honest image left });
+      kept = λ honest. tt;
+      end = λ honest image now. inl (record { count = 0; at_least = zero-le; within = zero-le; opens = opens honest image now });
       whole = λ honest none. opens honest;
     }
 

@@ -1,6 +1,6 @@
 -- What the engine answers is the model's reply, over plain variables.
 use Rattle.std.proofs.Common.{not, ◌≡◌, ◌⊎◌, inl, inr, ⊎_elim, ℕ, ◌+◌, Bool, true, false, cond, nat_lt, nat_le, List, [], ◌∷◌, ◌++◌, map, length, Option, Some, None, slice_get, refl, sym, ◌∙◌, ap, subst, arith, true≢false}
-use Rattle.std.specs.Prelude.{IsSome, Result, Ok, Err, IfOk}
+use Rattle.std.specs.Prelude.{is_some, IsSome, Result, Ok, Err, IfOk}
 use Rattle.st_base.specs.Entries.{add_charge}
 use Rattle.st_device.specs.Disk.{Image, DiskTold, IsHonest, Leaves}
 use Rattle.st_model.specs.declared.change.Batch.{Batch}
@@ -133,16 +133,17 @@ stopped_is o x is none = cc (sym is ∙ none)
 -- ---- the steps
 
 -- an accepted write
-pub accepted_steps : (old new : MarkStore) (was is : Option ℕ) (before after_it : DiskTold) (state : ModelState) (batch : Batch) (place last : ℕ) → StandsForState old state → was ≡ None
+pub accepted_steps : (old new : MarkStore) (was is : Option ℕ) (before after_it : DiskTold) (state : ModelState) (batch : Batch) (place last : ℕ) → StandsForState old state → was ≡ None → is ≡ None
     → slice_get (write_refusals state old.capacity batch.ops) 0 ≡ None → place ≡ state.place + 1 → last ≡ state.last + length batch.ops → StandsForState new (state_written state batch)
     → (IsHonest before → Leaves (λ image. OpensTo state image ⊎ OpensTo (state_written state batch) image) before after_it) → (IsHonest before → (image : Image) → after_it.now image → OpensTo (state_written state batch) image)
     → EngineSteps old new was is before after_it state (answered_call (Write batch) (record { place = place; reply = Written last }))
-accepted_steps old new was is before after_it state batch place last h running unrefused places lasts stands crash whole = record {
+accepted_steps old new was is before after_it state batch place last h running still_runs unrefused places lasts stands crash whole = record {
   place = places;
   answered = λ _. inl (ap Written lasts ∙ none_refused (write_refusals state old.capacity batch.ops) (Written (state.last + length batch.ops)) unrefused);
   served = refl;
   change = λ _. running;
   still = λ _. (running, refl);
+  stopped = λ stops. absurd (true≢false (sym stops ∙ ap is_some still_runs));
   unknown = λ _. inr (sym (ap (λ names. slice_get names 0) (accepted_known state h.family old.capacity batch.ops (record { families = h.families }) unrefused)));
   stands = stands;
   crash = λ honest _ image left. ⊎_elim (λ (b : OpensTo state image). inl b) (λ (a : OpensTo (state_written state batch) image). inr (inl a)) (crash honest image left);
@@ -160,6 +161,7 @@ refused_steps old new was is before after_it state batch place refusal h stands 
   served = ap not (write_unknown state h.family old.capacity batch.ops refusal h.families first memory).1;
   change = λ e. absurd (true≢false (sym e));
   still = still;
+  stopped = λ _. refl;
   unknown = λ _. (write_unknown state h.family old.capacity batch.ops refusal h.families first memory).0;
   stands = stands;
   crash = λ honest running image left. ⊎_elim (λ (b : OpensTo state image). inl b) (λ (a : (refusal ≡ DiskFault) × OpensTo (state_written state batch) image). inr (inr (ap Refused a.0, a.1))) (crash honest running image left);
@@ -187,6 +189,7 @@ get_steps store was before state family key answer h place is crash whole =
       served = ap is_served same_reply ∙ kind.2;
       change = λ e. absurd (true≢false (sym e ∙ change));
       still = λ none. (none, stop);
+      stopped = λ _. change;
       unknown = λ _. inr (get_unknown state h.family family key answer.reply h.families is);
       stands = subst (λ (s : ModelState). StandsForState store s) (sym stays) h;
       crash = λ honest running image left. inl (crash honest running image left);
@@ -203,6 +206,7 @@ long_steps store was before state command place h is crash whole = record {
   served = refl;
   change = λ e. absurd (true≢false (sym e));
   still = λ none. (none, refl);
+  stopped = λ _. refl;
   unknown = λ tells. absurd (true≢false (sym tells));
   stands = h;
   crash = λ honest running image left. inl (crash honest running image left);

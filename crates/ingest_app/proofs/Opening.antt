@@ -20,37 +20,6 @@ use Rattle.ingest_app.specs.Run.{EndsOpening, EndsScripts, StaysAsRead}
 use Rattle.ingest_app.specs.declared.status.Status.{Status}
 use Rattle.ingest_app.specs.declared.status.Status.TheVariants.{Done, Refused, Memory, InputFault, DiskFault, SinkFault, Script, Damaged, NotYet}
 
--- ---- the contents of a state that was opened
-
-filter_twice : {X : Type 0} (p : X → Bool) (xs : List X) → filter p (filter p xs) ≡ filter p xs
-filter_twice p [] = refl
-filter_twice p (x ∷ xs) = go (p x) refl (filter_twice p xs)
-  where
-    go : (b : Bool) → p x ≡ b → filter p (filter p xs) ≡ filter p xs → filter p (cond b (x ∷ filter p xs) (filter p xs)) ≡ cond b (x ∷ filter p xs) (filter p xs)
-    go true is rest = ap (λ b. cond b (x ∷ filter p (filter p xs)) (filter p (filter p xs))) is ∙ ap (λ l. x ∷ l) rest
-    go false is rest = rest
-
-pairs_again : (pairs : List (List ℕ × Mark)) → map (λ (entry : Entry). (entry.key, entry.mark)) (map as_entry pairs) ≡ pairs
-pairs_again [] = refl
-pairs_again (pair ∷ pairs) = ap (λ rest. pair ∷ rest) (pairs_again pairs)
-
-pub opened_contents : (behind : Bool) (ops : List Logged) → contents (opened (contents_of behind ops) (known_of ops)) ≡ contents_of behind ops
-opened_contents behind ops =
-    let kept : List (List ℕ × Mark) = kept_marks behind (written_marks ops) in
-    let again : kept_marks behind (map (λ (entry : Entry). (entry.key, entry.mark)) (map as_entry (kept_marks behind (written_marks ops)))) ≡ kept_marks behind (written_marks ops) =
-    ap (kept_marks behind) (pairs_again (kept_marks behind (written_marks ops))) ∙ filter_twice (λ (pair : List ℕ × Mark). is_kept behind pair.1) (written_marks ops) in
-    λ i. record { last = last_number 0 ops; behind = behind; families = record { id = 0; name = default_family; marks = map as_entry (again i); ranges = [] } ∷ [] }
-
--- an image that has what was read opens to the state before the first change
-at_first : (ops : List Logged) (transcripts : List (List Call)) (image : Image) → opens image ≡ Ok ops → OpensTo (state_at (opening_of ops) transcripts 0) image
-at_first ops transcripts image is =
-    let none : opening_of ops ≡ state_at (opening_of ops) transcripts 0 = ap (fold after_call (opening_of ops)) (sym (take_none (accepted_calls transcripts))) in
-    subst (λ (s : ModelState). OpensTo s image) none (in_image false image ops is ∙ ap Some (sym (opened_contents false ops)))
-  where
-    take_none : (xs : List Call) → take 0 xs ≡ []
-    take_none [] = refl
-    take_none (x ∷ xs) = refl
-
 -- ---- the run
 
 module _ (clients : List ClientScript) (text : List ℕ) (before mid after : DiskTold) (ops : List Logged) (p : Passes before mid) (q : Passes mid after) (read : IsHonest before → opens before.reads ≡ Ok ops)
@@ -61,14 +30,21 @@ module _ (clients : List ClientScript) (text : List ℕ) (before mid after : Dis
     read = read;
     transcripts = a.transcripts;
     answers = a.answers;
+    opened = mid.moment;
+    moments = a.moments;
+    later = p.later;
+    each_change = a.each_change;
+    in_turn = a.in_turn;
     crash = λ honest image left. ⊎_elim
         (λ (w : mid.since before.moment image). ⊎_elim
         (λ (now : before.now image). inl now)
-        (λ (is : opens image ≡ opens before.reads). inr (inl (record { count = 0; within = zero-le; opens = at_first ops a.transcripts image (is ∙ read honest) })))
+        (λ (is : opens image ≡ opens before.reads). inr (inl (is ∙ read honest)))
         (stays honest image w))
-        (λ (w : after.since mid.moment image). inr (a.crash (p.honest_on honest) image w))
+        (λ (w : after.since mid.moment image). inr (inr w))
         (q.was before.moment image p.later left);
-    end = λ honest image now. a.crash (p.honest_on honest) image (q.ends image now);
+    since = λ honest. a.crash (p.honest_on honest);
+    kept = λ honest. a.kept (p.honest_on honest);
+    end = λ honest. a.end (p.honest_on honest);
     whole = λ none honest image now. a.whole none (p.honest_on honest) image now;
   }
 

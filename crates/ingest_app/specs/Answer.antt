@@ -1,6 +1,6 @@
 -- What one answer of the engine says.
 use Rattle.std.specs.Prelude.{ℕ, ◌≡◌, ◌⊎◌, ◌+◌, ◌-◌, ◌++◌, IsTrue, List, [], length, true, false, if◌then◌else◌}
-use Rattle.std.specs.Prelude.{Option, None}
+use Rattle.std.specs.Prelude.{Option, None, is_some}
 use Rattle.st_device.specs.Disk.{Image, DiskTold, IsHonest, Leaves}
 use Rattle.log_engine.specs.Engine.{OpensTo}
 use Rattle.log_engine.specs.MarkStore.{StandsForState}
@@ -54,6 +54,7 @@ pub record EngineSteps (old new : MarkStore) (was is : Option ℕ) (before after
   -- a stopped store makes no change, and stays stopped; a stop is answered by a stopped store alone
   pub change : is_change call.reply ≡ true → was ≡ None
   pub still : is ≡ None → (was ≡ None) × (is_stop call.reply ≡ false)
+  pub stopped : is_some is ≡ true → is_change call.reply ≡ false
   pub unknown : IsStrangerTold call
   pub stands : StandsForState new (after state call)
   pub crash : IsHonest before → was ≡ None → Leaves (IsOfCall state call) before after_it

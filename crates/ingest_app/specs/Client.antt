@@ -1,5 +1,5 @@
 -- The clients of a run: their files, and their transcripts.
-use Rattle.std.specs.Prelude.{ℕ, ◌≡◌, ◌⊎◌, nat_lt, length, List, [], ◌∷◌, ◌++◌, map, flat_map, true, false, Bool, codes}
+use Rattle.std.specs.Prelude.{ℕ, ◌≡◌, ◌⊎◌, ◌≤◌, nat_lt, length, List, [], ◌∷◌, ◌++◌, map, flat_map, true, false, Bool, codes}
 use Rattle.std.specs.Prelude.{if◌then◌else◌, Option, Some, None, Result, Ok, Err}
 use Rattle.std.specs.List.{AllZip, AllByRecursion as Each}
 use Rattle.st_base.specs.declared.limits.TheConstants.{CAPACITY, CLIENT_FILE_BYTES}
@@ -15,12 +15,13 @@ use Rattle.st_model.specs.Calls.{AreCallsOf}
 use Rattle.st_model.specs.Contents.{opened}
 use Rattle.st_model.specs.Legal.{IsLegal}
 use Rattle.st_model.specs.Line.{line_of}
+use Rattle.st_model.specs.Places.{changes_in}
 use Rattle.log_engine.specs.Engine.{OpensTo}
 use Rattle.log_recover.specs.Contents.{contents_of, known_of}
 use Rattle.log_recover.specs.Opens.{opens}
 use Rattle.st_wal.specs.declared.logged.Logged.{Logged}
 use Rattle.ingest_app.specs.Answer.{IsStrangerTold}
-use Rattle.ingest_app.specs.Crash.{IsOfRun, state_now}
+use Rattle.ingest_app.specs.Crash.{AreKept, AreMoments, IsOfRun, state_now}
 use Rattle.ingest_app.specs.declared.status.Status.{Status}
 use Rattle.ingest_app.specs.declared.status.Status.TheVariants.{Done, DiskFault}
 
@@ -75,7 +76,14 @@ pub record AreClientsAnswered (clients : List ClientScript) (text : List ℕ) (o
     (before after : DiskTold) (failed : Bool) : Type 0 where
   pub transcripts : List (List Call)
   pub answers : AreTranscriptsOf clients text opening failed transcripts
-  pub crash : IsHonest before → Leaves (IsOfRun opening transcripts) before after
+  -- a moment for each change
+  pub moments : List ℕ
+  pub each_change : length moments ≡ changes_in transcripts
+  pub in_turn : AreMoments before.moment after.moment moments
+  pub crash : IsHonest before → Leaves (IsOfRun opening transcripts 0) before after
+  pub kept : IsHonest before → AreKept opening transcripts after 0 moments
+  pub end : IsHonest before → (image : Image) → after.now image
+      → IsOfRun opening transcripts (changes_in transcripts) image
   pub whole : failed ≡ false → IsHonest before → (image : Image) → after.now image
       → OpensTo (state_now opening transcripts) image
 
@@ -95,11 +103,23 @@ pub record IsRun (clients : List ClientScript) (text : List ℕ) (before after :
   pub read : IsHonest before → opens before.reads ≡ Ok ops
   pub transcripts : List (List Call)
   pub answers : AreTranscriptsOf clients text (opening_of ops) failed transcripts
-  -- each image of a crash within the run is one that a crash before it could leave, or opens to the contents after the
-  -- first changes, or to those with the change that was cut off; at the end each does the latter
-  pub crash : IsHonest before
-      → Leaves (λ image. before.now image ⊎ IsOfRun (opening_of ops) transcripts image) before after
-  pub end : IsHonest before → (image : Image) → after.now image → IsOfRun (opening_of ops) transcripts image
-  -- without a fault it then opens to those after all changes
+  -- the moment at which the store was opened, and one for each change
+  pub opened : ℕ
+  pub moments : List ℕ
+  pub later : before.moment ≤ opened
+  pub each_change : length moments ≡ changes_in transcripts
+  pub in_turn : AreMoments opened after.moment moments
+  -- each image of a crash within the run is one that a crash before it could leave, or has what was read, or is one of a
+  -- crash since the opening
+  pub crash : IsHonest before → (image : Image) → after.since before.moment image
+      → before.now image ⊎ (opens image ≡ Ok ops) ⊎ after.since opened image
+  -- each of a crash since the opening opens to the contents after the first changes, or to those with the change that was
+  -- cut off; since the moment of a change it has this change too
+  pub since : IsHonest before → (image : Image) → after.since opened image
+      → IsOfRun (opening_of ops) transcripts 0 image
+  pub kept : IsHonest before → AreKept (opening_of ops) transcripts after 0 moments
+  -- at the end each has all changes; without a fault it opens to the contents after them
+  pub end : IsHonest before → (image : Image) → after.now image
+      → IsOfRun (opening_of ops) transcripts (changes_in transcripts) image
   pub whole : failed ≡ false → IsHonest before → (image : Image) → after.now image
       → OpensTo (state_now (opening_of ops) transcripts) image

@@ -10,6 +10,7 @@
 //! calls each.
 #![tactic(auto)]
 
+mod folder;
 mod folder_disk;
 mod folder_inputs;
 mod open_files;

@@ -18,7 +18,7 @@ returns-in-Ok-clause-steps g c = λ state h.
     let e = c.in-Ok.ensures in
     let running : old.stopped ≡ None = running_of old.stopped (λ some. cc (e.stopped.1 some)) in
     let numbers = e.numbers state h in
-    accepted_steps old.store new.store old.stopped new.stopped (g.D.Disk.tells old.disk) (g.D.Disk.tells new.disk) state c.args.batch.now c.in-Ok.wrote.place c.in-Ok.wrote.last h running numbers.unrefused numbers.place numbers.last (e.accepted state h)
+    accepted_steps old.store new.store old.stopped new.stopped (g.D.Disk.tells old.disk) (g.D.Disk.tells new.disk) state c.args.batch.now c.in-Ok.wrote.place c.in-Ok.wrote.last h running (e.stop_unchanged (λ fault. cc fault) ∙ running) numbers.unrefused numbers.place numbers.last (e.accepted state h)
     (λ honest. e.crash honest running state h) (λ honest. e.after honest state h)
 
 pub returns-in_ok-shown-in-Err-clause-steps : goal.returns-in_ok-shown-in-Err-clause-steps

@@ -65,7 +65,7 @@ loop-numbered-preserved g c =
           subst (λ commands. Along c.args.name.now c.print_answer.new.text opening (g.D.Disk.tells first.disk) (g.D.Disk.tells new.disk) new.store new.stopped commands) taken
           (along_grows g.D.Disk.tells c.args.name.now c.loop-numbered.text c.print_answer.new.text opening (g.D.Disk.tells first.disk) old.disk new.disk old.store new.store old.stopped new.stopped (map named (take c.loop-numbered.numbered-index items)) command
           c.len-heading.result (c.len-heading.ensures ∙ ap length c.in_ok-text.ensures) served
-          i.passes e.passes (i.capacity ∙ c.requires.capacity) (i.along opening h fresh) e.printed e.untouched);
+          i.passes e.passes (i.capacity ∙ c.requires.capacity) (i.along opening h fresh) e.printed e.untouched (g.met.D.Disk.clock new.disk));
     }
 
 pub returns-clause-answered : goal.returns-clause-answered
@@ -81,6 +81,11 @@ returns-clause-answered g c = λ opening h fresh.
         legal = a.legal;
         printed = a.printed ∙ sym (append-nil (transcript c.args.name.now a.calls));
       };
+      moments = a.moments;
+      each_change = a.each_change;
+      in_turn = a.in_turn;
       crash = a.crash;
+      kept = a.kept;
+      end = a.end;
       whole = λ none honest image now. subst (λ (s : ModelState). OpensTo s image) (a.is ∙ ap (state_at opening (a.calls ∷ [])) a.newest) (a.whole honest (none_of c.loop-numbered.engine.stopped none) image now);
     }
