@@ -4,7 +4,7 @@
 cd "$(dirname "$0")/.." || exit 1
 shopt -s globstar nullglob
 export LC_ALL=C # awk counts bytes then; characters are counted without the bytes that go on with one
-let_off='ingest_app' # crates whose contracts' lines may be longer, parted by |: goes once the top contract has its new shape
+let_off='' # crates whose contracts' lines may be longer, parted by |
 
 # A public name of specs/, or of a type, that two crates have stands in the first table of docs/NAMES.md: one word for one
 # thing. Crates of tests aside. A row whose name no longer stands in two crates is told too.

@@ -36,8 +36,8 @@ pub record ClientScript : Type 0 where
   pub commands : List Numbered
 
 -- the commands without the numbers of their lines
-abbrev pub commands_of : List Numbered → List Command
-commands_of commands = map (λ numbered. numbered.command) commands
+abbrev pub commands_alone : List Numbered → List Command
+commands_alone commands = map (λ numbered. numbered.command) commands
 
 -- ---- transcripts
 
@@ -58,7 +58,7 @@ pub record AnswersClient (client : ClientScript) (calls : List Call) : Type 0 wh
   pub seen : List (List FileSeen)
   -- the places and the replies
   pub answers : List (ℕ × Reply)
-  pub are : AreCallsOf (commands_of client.commands) seen answers calls
+  pub are : AreCallsOf (commands_alone client.commands) seen answers calls
   pub unknown : Each IsStrangerTold calls
 
 -- The text is the transcripts of the clients, whose calls are one legal run from this state on. The inputs haven't failed;

@@ -38,13 +38,19 @@ fn shown(refusal: Refusal) -> Result<Refusal, AllocError>
 
 fn answer_write<D: Disk>(engine: &mut Engine<D>, batch: &Batch) -> Result<Answer, AllocError>
     requires limits { IsWrite batch.now.ops }
-    requires tied { IsHonest (D.tells engine.old.disk) → engine.old.stopped ≡ None → IsTied engine.old.wal engine.old.store (D.tells engine.old.disk) }
-    ensures steps { IfOk result (λ answer. (state : ModelState) → StandsForState engine.old.store state → EngineSteps engine.old.store engine.new.store engine.old.stopped engine.new.stopped (D.tells engine.old.disk) (D.tells engine.new.disk) state (answered_call (Command.Write batch.now) answer)) }
+    requires tied { IsHonest (D.tells engine.old.disk) → engine.old.stopped ≡ None
+        → IsTied engine.old.wal engine.old.store (D.tells engine.old.disk) }
+    ensures steps { IfOk result (λ answer. (state : ModelState) → StandsForState engine.old.store state
+        → EngineSteps engine.old.store engine.new.store engine.old.stopped engine.new.stopped (D.tells engine.old.disk)
+        (D.tells engine.new.disk) state (answered_call (Command.Write batch.now) answer)) }
     ensures short { IfOk result (λ answer. is_long answer.reply ≡ false) }
-    ensures tied { IsHonest (D.tells engine.old.disk) → engine.new.stopped ≡ None → IsTied engine.new.wal engine.new.store (D.tells engine.new.disk) }
+    ensures tied { IsHonest (D.tells engine.old.disk) → engine.new.stopped ≡ None
+        → IsTied engine.new.wal engine.new.store (D.tells engine.new.disk) }
     ensures untouched { (engine.old.stopped ≡ None) ⊎ (engine.new.disk ≡ engine.old.disk) }
-    ensures cause { (engine.new.stopped ≡ engine.old.stopped) ⊎ Rose (D.tells engine.old.disk).faults (D.tells engine.new.disk).faults }
-    ensures options { (engine.new.store.behind ≡ engine.old.store.behind) × (engine.new.store.capacity ≡ engine.old.store.capacity) }
+    ensures cause { (engine.new.stopped ≡ engine.old.stopped)
+        ⊎ Rose (D.tells engine.old.disk).faults (D.tells engine.new.disk).faults }
+    ensures options { (engine.new.store.behind ≡ engine.old.store.behind)
+        × (engine.new.store.capacity ≡ engine.old.store.capacity) }
     ensures passes { Passes (D.tells engine.old.disk) (D.tells engine.new.disk) }
 {
     match engine.write(batch) {
@@ -61,7 +67,8 @@ fn answer_write<D: Disk>(engine: &mut Engine<D>, batch: &Batch) -> Result<Answer
 
 fn answer_get<D: Disk>(engine: &Engine<D>, family: &Family, key: &Key) -> Result<Answer, AllocError>
     ensures short { IfOk result (λ answer. is_long answer.reply ≡ false) }
-    ensures answered { IfOk result (λ answer. (state : ModelState) → StandsForState engine.now.store state → (answer.place ≡ state.place) × (answer.reply ≡ get_answer state state.last family.now key.now)) }
+    ensures answered { IfOk result (λ answer. (state : ModelState) → StandsForState engine.now.store state
+        → (answer.place ≡ state.place) × (answer.reply ≡ get_answer state state.last family.now key.now)) }
 {
     let place = engine.place();
     match engine.read_now(family, key) {
@@ -86,13 +93,19 @@ fn answer_command<D: Disk>(
     command: &Command,
 ) -> Result<Answer, AllocError>
     requires served { IsServed command.now }
-    requires tied { IsHonest (D.tells engine.old.disk) → engine.old.stopped ≡ None → IsTied engine.old.wal engine.old.store (D.tells engine.old.disk) }
-    ensures steps { IfOk result (λ answer. (state : ModelState) → StandsForState engine.old.store state → EngineSteps engine.old.store engine.new.store engine.old.stopped engine.new.stopped (D.tells engine.old.disk) (D.tells engine.new.disk) state (answered_call command.now answer)) }
+    requires tied { IsHonest (D.tells engine.old.disk) → engine.old.stopped ≡ None
+        → IsTied engine.old.wal engine.old.store (D.tells engine.old.disk) }
+    ensures steps { IfOk result (λ answer. (state : ModelState) → StandsForState engine.old.store state
+        → EngineSteps engine.old.store engine.new.store engine.old.stopped engine.new.stopped (D.tells engine.old.disk)
+        (D.tells engine.new.disk) state (answered_call command.now answer)) }
     ensures short { IfOk result (λ answer. is_long answer.reply ≡ false) }
-    ensures tied { IsHonest (D.tells engine.old.disk) → engine.new.stopped ≡ None → IsTied engine.new.wal engine.new.store (D.tells engine.new.disk) }
+    ensures tied { IsHonest (D.tells engine.old.disk) → engine.new.stopped ≡ None
+        → IsTied engine.new.wal engine.new.store (D.tells engine.new.disk) }
     ensures untouched { (engine.old.stopped ≡ None) ⊎ (engine.new.disk ≡ engine.old.disk) }
-    ensures cause { (engine.new.stopped ≡ engine.old.stopped) ⊎ Rose (D.tells engine.old.disk).faults (D.tells engine.new.disk).faults }
-    ensures options { (engine.new.store.behind ≡ engine.old.store.behind) × (engine.new.store.capacity ≡ engine.old.store.capacity) }
+    ensures cause { (engine.new.stopped ≡ engine.old.stopped)
+        ⊎ Rose (D.tells engine.old.disk).faults (D.tells engine.new.disk).faults }
+    ensures options { (engine.new.store.behind ≡ engine.old.store.behind)
+        × (engine.new.store.capacity ≡ engine.old.store.capacity) }
     ensures passes { Passes (D.tells engine.old.disk) (D.tells engine.new.disk) }
 {
     match command {

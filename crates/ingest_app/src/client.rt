@@ -63,7 +63,8 @@ pub fn answer_script<D: Disk>(
     engine: &mut Engine<D>,
 ) -> Result<Bytes, AllocError>
     requires served { Each (λ numbered. IsServed numbered.command) script.now.commands }
-    requires tied { IsHonest (D.tells engine.old.disk) → IsTied engine.old.wal engine.old.store (D.tells engine.old.disk) }
+    requires tied { IsHonest (D.tells engine.old.disk)
+        → IsTied engine.old.wal engine.old.store (D.tells engine.old.disk) }
     requires running { engine.old.stopped ≡ None }
     requires capacity { engine.old.store.capacity ≡ CAPACITY }
     ensures answered { IfOk result (λ text. (opening : ModelState) → StandsForState engine.old.store opening

@@ -78,7 +78,8 @@ fn convert_bytes(alloc: Global, form: Conversion, bytes: Bytes) -> Result<Outcom
 // The outcome of a source that is too long to be read whole. A table as long as that is too large.
 fn too_long(alloc: Global, form: Conversion) -> Result<Outcome, AllocError>
     ensures status { IfOk result (λ outcome. outcome.status ≡ Status.Refused) }
-    ensures ends { IfOk result (λ outcome. (bytes : List ℕ) → SOURCE_BYTES < length bytes → EndsBytes form bytes outcome.status outcome.text) }
+    ensures ends { IfOk result
+        (λ outcome. (bytes : List ℕ) → SOURCE_BYTES < length bytes → EndsBytes form bytes outcome.status outcome.text) }
 {
     match form {
         Conversion::Build => refused(alloc, b"0 TooLong"),
@@ -90,7 +91,8 @@ fn too_long(alloc: Global, form: Conversion) -> Result<Outcome, AllocError>
 fn convert_read(alloc: Global, form: Conversion, read: SourceRead) -> Result<Outcome, AllocError>
     requires { IsReadWithin SOURCE_BYTES read }
     ensures status { IfOk result (λ outcome. IsOfBytes outcome.status) }
-    ensures ends { IfOk result (λ outcome. (bytes : List ℕ) → read ≡ source_read SOURCE_BYTES bytes → EndsBytes form bytes outcome.status outcome.text) }
+    ensures ends { IfOk result (λ outcome. (bytes : List ℕ) → read ≡ source_read SOURCE_BYTES bytes
+        → EndsBytes form bytes outcome.status outcome.text) }
 {
     match read {
         SourceRead::Whole(bytes) => convert_bytes(alloc, form, bytes),
@@ -104,7 +106,8 @@ fn convert_source<S: Source>(
     form: Conversion,
     source: &mut S,
 ) -> Result<Outcome, AllocError>
-    ensures ends { IfOk result (λ outcome. EndsSource form (S.tells source.old) (S.tells source.new) outcome.status outcome.text) }
+    ensures ends { IfOk result
+        (λ outcome. EndsSource form (S.tells source.old) (S.tells source.new) outcome.status outcome.text) }
 {
     match read_source(alloc, source, SOURCE_BYTES) {
         Ok(read) => convert_read(alloc, form, read),
@@ -120,7 +123,10 @@ fn convert_words<S: Source, K: Sink>(
     source: &mut S,
     sink: &mut K,
 ) -> Status
-    ensures { MatchOption (conversion_of (map string_bytes words.now)) (EndsWriting EndsNoForm (K.tells sink.old) (K.tells sink.new) result) (λ form. Converted form (S.tells source.old) (S.tells source.new) (K.tells sink.old) (K.tells sink.new) result) }
+    ensures { MatchOption (conversion_of (map string_bytes words.now))
+        (EndsWriting EndsNoForm (K.tells sink.old) (K.tells sink.new) result)
+        (λ form. Converted form (S.tells source.old) (S.tells source.new) (K.tells sink.old)
+        (K.tells sink.new) result) }
 {
     match conversion_of(words) {
         Some(form) => {
@@ -142,19 +148,29 @@ pub fn convert<S: Source, K: Sink>(
     sink: &mut K,
 ) -> Status
     // What was written, status by status: after Done the table, or the build text; after Refused the first fault.
-    ensures ended { MatchOption (conversion_of (map string_bytes words.now)) (EndsWriting EndsNoForm (K.tells sink.old) (K.tells sink.new) result) (λ form. Converted form (S.tells source.old) (S.tells source.new) (K.tells sink.old) (K.tells sink.new) result) }
+    ensures ended { MatchOption (conversion_of (map string_bytes words.now))
+        (EndsWriting EndsNoForm (K.tells sink.old) (K.tells sink.new) result)
+        (λ form. Converted form (S.tells source.old) (S.tells source.new) (K.tells sink.old)
+        (K.tells sink.new) result) }
 
     // When each status comes.
     ensures not_yet { result ≡ Status.NotYet → conversion_of (map string_bytes words.now) ≡ None }
     ensures input_fault { result ≡ Status.InputFault → Rose (S.tells source.old).faults (S.tells source.new).faults }
     ensures sink_fault { result ≡ Status.SinkFault → Rose (K.tells sink.old).faults (K.tells sink.new).faults }
-    ensures done { result ≡ Status.Done → IsSomeAnd (conversion_of (map string_bytes words.now)) (λ form. IsTrue (S.tells source.old).known → IsConvertible form (S.tells source.old).left) }
-    ensures refused { result ≡ Status.Refused → IsSomeAnd (conversion_of (map string_bytes words.now)) (λ form. IsTrue (S.tells source.old).known → IsUnconvertible form (S.tells source.old).left) }
+    ensures done { result ≡ Status.Done
+        → IsSomeAnd (conversion_of (map string_bytes words.now))
+        (λ form. IsTrue (S.tells source.old).known → IsConvertible form (S.tells source.old).left) }
+    ensures refused { result ≡ Status.Refused
+        → IsSomeAnd (conversion_of (map string_bytes words.now))
+        (λ form. IsTrue (S.tells source.old).known → IsUnconvertible form (S.tells source.old).left) }
 
     ensures memory { result ≡ Status.Memory → Writes (K.tells sink.old) (K.tells sink.new) [] }
 
     // Words that ask for a conversion are answered, where nothing fails and memory is there.
-    ensures complete { IsSome (conversion_of (map string_bytes words.now)) → ¬ Rose (S.tells source.old).faults (S.tells source.new).faults → ¬ Rose (K.tells sink.old).faults (K.tells sink.new).faults → (result ≡ Status.Done) ⊎ (result ≡ Status.Refused) ⊎ (result ≡ Status.Memory) }
+    ensures complete { IsSome (conversion_of (map string_bytes words.now))
+        → ¬ Rose (S.tells source.old).faults (S.tells source.new).faults
+        → ¬ Rose (K.tells sink.old).faults (K.tells sink.new).faults
+        → (result ≡ Status.Done) ⊎ (result ≡ Status.Refused) ⊎ (result ≡ Status.Memory) }
 {
     convert_words(alloc, words, source, sink)
 }

@@ -11,7 +11,8 @@ use table_writer::written_table_opens;
 /// Of the table that `build` writes of a text, `show` writes this text, and ends in no other way.
 pub fn show_gives_back_what_was_built()
     ensures shown { (text table : List ℕ) → EndsBytes Build text Done table → EndsBytes Show table Done text }
-    ensures only { (text table out : List ℕ) (status : Status) → EndsBytes Build text Done table → EndsBytes Show table status out → (status ≡ Done) × (out ≡ text) }
+    ensures only { (text table out : List ℕ) (status : Status) → EndsBytes Build text Done table
+        → EndsBytes Show table status out → (status ≡ Done) × (out ≡ text) }
 {
     build_text_is_read();
     table_or_first_fault();

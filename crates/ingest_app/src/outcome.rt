@@ -93,8 +93,12 @@ fn run_engine<D: Disk>(
     requires tied { IsHonest (D.tells engine.disk) → IsTied engine.wal engine.store (D.tells engine.disk) }
     requires running { engine.stopped ≡ None }
     requires capacity { engine.store.capacity ≡ CAPACITY }
-    ensures ends { IfOk result.0 (λ outcome. (opening : ModelState) → StandsForState engine.store opening → IsOpening opening → EndsAnswered (one_client name.now script.now.commands) opening (D.tells engine.disk) (D.tells result.1) outcome.status outcome.text) }
-    ensures fault { IfOk result.0 (λ outcome. outcome.status ≡ Status.DiskFault → Faulted (D.tells engine.disk) (D.tells result.1)) }
+    ensures ends { IfOk result.0
+        (λ outcome. (opening : ModelState) → StandsForState engine.store opening → IsOpening opening
+        → EndsAnswered (one_client name.now script.now.commands) opening (D.tells engine.disk)
+        (D.tells result.1) outcome.status outcome.text) }
+    ensures fault { IfOk result.0
+        (λ outcome. outcome.status ≡ Status.DiskFault → Faulted (D.tells engine.disk) (D.tells result.1)) }
     ensures passes { Passes (D.tells engine.disk) (D.tells result.1) }
 {
     let answered = answer_script(alloc, name, script, &mut engine);
@@ -134,8 +138,11 @@ fn run_script<D: Disk>(
     disk: D,
 ) -> (Result<Outcome, AllocError>, D)
     requires { Each (λ numbered. IsServed numbered.command) script.now.commands }
-    ensures ends { IfOk result.0 (λ outcome. EndsScripts (one_client name.now script.now.commands) (D.tells disk) (D.tells result.1) outcome.status outcome.text) }
-    ensures fault { IfOk result.0 (λ outcome. outcome.status ≡ Status.DiskFault → Faulted (D.tells disk) (D.tells result.1)) }
+    ensures ends { IfOk result.0
+        (λ outcome. EndsScripts (one_client name.now script.now.commands) (D.tells disk)
+        (D.tells result.1) outcome.status outcome.text) }
+    ensures fault { IfOk result.0
+        (λ outcome. outcome.status ≡ Status.DiskFault → Faulted (D.tells disk) (D.tells result.1)) }
     ensures passes { Passes (D.tells disk) (D.tells result.1) }
 {
     let options = Options {
@@ -157,8 +164,10 @@ fn run_text<D: Disk>(
 ) -> (Result<Outcome, AllocError>, D)
     requires { length text.now ≤ CLIENT_FILE_BYTES }
     ensures status { IfOk result.0 (λ outcome. IsOfFile outcome.status) }
-    ensures ends { IfOk result.0 (λ outcome. EndsClient (Some text.now) name.now (D.tells disk) (D.tells result.1) outcome.status outcome.text) }
-    ensures fault { IfOk result.0 (λ outcome. outcome.status ≡ Status.DiskFault → Faulted (D.tells disk) (D.tells result.1)) }
+    ensures ends { IfOk result.0
+        (λ outcome. EndsClient (Some text.now) name.now (D.tells disk) (D.tells result.1) outcome.status outcome.text) }
+    ensures fault { IfOk result.0
+        (λ outcome. outcome.status ≡ Status.DiskFault → Faulted (D.tells disk) (D.tells result.1)) }
     ensures disk_untouched { IfOk result.0 (λ outcome. IsBeforeDisk outcome.status → result.1 ≡ disk) }
     ensures passes { Passes (D.tells disk) (D.tells result.1) }
 {
@@ -188,8 +197,10 @@ fn run_file<D: Disk>(
 ) -> (Result<Outcome, AllocError>, D)
     requires { IsFileWithin CLIENT_FILE_BYTES read }
     ensures status { IfOk result.0 (λ outcome. IsOfFile outcome.status) }
-    ensures ends { IfOk result.0 (λ outcome. (file : Option (List ℕ)) → read ≡ file_read CLIENT_FILE_BYTES file → EndsClient file name.now (D.tells disk) (D.tells result.1) outcome.status outcome.text) }
-    ensures fault { IfOk result.0 (λ outcome. outcome.status ≡ Status.DiskFault → Faulted (D.tells disk) (D.tells result.1)) }
+    ensures ends { IfOk result.0 (λ outcome. (file : Option (List ℕ)) → read ≡ file_read CLIENT_FILE_BYTES file
+        → EndsClient file name.now (D.tells disk) (D.tells result.1) outcome.status outcome.text) }
+    ensures fault { IfOk result.0
+        (λ outcome. outcome.status ≡ Status.DiskFault → Faulted (D.tells disk) (D.tells result.1)) }
     ensures disk_untouched { IfOk result.0 (λ outcome. IsBeforeDisk outcome.status → result.1 ≡ disk) }
     ensures passes { Passes (D.tells disk) (D.tells result.1) }
 {
@@ -218,7 +229,9 @@ fn run_client<D: Disk, I: Inputs>(
     inputs: &mut I,
 ) -> (Result<Outcome, AllocError>, D)
     requires { IsTrue (is_name name.now) }
-    ensures ends { IfOk result.0 (λ outcome. EndsNamed name.now (I.tells inputs.old) (I.tells inputs.new) (D.tells disk) (D.tells result.1) outcome.status outcome.text) }
+    ensures ends { IfOk result.0
+        (λ outcome. EndsNamed name.now (I.tells inputs.old) (I.tells inputs.new) (D.tells disk)
+        (D.tells result.1) outcome.status outcome.text) }
     ensures disk_untouched { IfOk result.0 (λ outcome. IsBeforeDisk outcome.status → result.1 ≡ disk) }
     ensures passes { Passes (D.tells disk) (D.tells result.1) }
     ensures inputs_untouched { InputsUntouched (I.tells inputs.old) (I.tells inputs.new) }
@@ -247,7 +260,9 @@ pub fn outcome_of<D: Disk, I: Inputs>(
     disk: D,
     inputs: &mut I,
 ) -> (Result<Outcome, AllocError>, D)
-    ensures ends { IfOk result.0 (λ outcome. Ends (map string_bytes words.now) (I.tells inputs.old) (I.tells inputs.new) (D.tells disk) (D.tells result.1) outcome.status outcome.text) }
+    ensures ends { IfOk result.0
+        (λ outcome. Ends (map string_bytes words.now) (I.tells inputs.old) (I.tells inputs.new) (D.tells disk)
+        (D.tells result.1) outcome.status outcome.text) }
     ensures disk_untouched { IfOk result.0 (λ outcome. IsBeforeDisk outcome.status → result.1 ≡ disk) }
     ensures passes { Passes (D.tells disk) (D.tells result.1) }
     ensures inputs_untouched { InputsUntouched (I.tells inputs.old) (I.tells inputs.new) }

@@ -9,7 +9,8 @@ use std::alloc::AllocError;
 
 /// Writes the text of an outcome and nothing else, and answers its status, if the sink takes all of the text.
 pub fn write_outcome<K: Sink>(sink: &mut K, outcome: Result<Outcome, AllocError>) -> Status
-    ensures wrote { IfOk outcome (λ outcome. WritesOutcome outcome.status outcome.text (K.tells sink.old) (K.tells sink.new) result) }
+    ensures wrote { IfOk outcome
+        (λ outcome. WritesOutcome outcome.status outcome.text (K.tells sink.old) (K.tells sink.new) result) }
     ensures memory { IsErr outcome → (result ≡ Status.Memory) × (sink.new ≡ sink.old) }
 {
     match outcome {

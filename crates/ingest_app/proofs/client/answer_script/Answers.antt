@@ -13,7 +13,7 @@ use Rattle.st_model.specs.State.{IsOpening}
 use Rattle.cmd_text.specs.declared.script.Numbered.{Numbered}
 use Rattle.st_model.specs.Calls.{AreCallsOf}
 use Rattle.st_model.specs.History.{state_at}
-use Rattle.ingest_app.specs.Client.{commands_of, transcript}
+use Rattle.ingest_app.specs.Client.{commands_alone, transcript}
 use Rattle.ingest_app.specs.Op.{IsServed}
 use Rattle.ingest_app.proofs.Along.{Along, along_grows, along_start, each_at, no_files, none_of}
 use Rattle.ingest_app.proofs.client.answer_script.Goals as goal
@@ -73,11 +73,11 @@ returns-clause-answered g c = λ opening h fresh.
     let i = c.loop-numbered.invariant in
     let a = i.along opening h fresh in
     let items = c.as_slice-numbered-items.result.now in
-    let all : commands_of (take c.loop-numbered.numbered-index items) ≡ commands_of c.args.script.now.commands = ap commands_of (take_all c.loop-numbered.numbered-index items c.loop-numbered-test.false ∙ c.as_slice-numbered-items.ensures) in
+    let all : commands_alone (take c.loop-numbered.numbered-index items) ≡ commands_alone c.args.script.now.commands = ap commands_alone (take_all c.loop-numbered.numbered-index items c.loop-numbered-test.false ∙ c.as_slice-numbered-items.ensures) in
     record {
       transcripts = a.calls ∷ [];
       answers = record {
-        answered = (record { seen = no_files (commands_of c.args.script.now.commands); answers = a.answers; are = subst (λ commands. AreCallsOf commands (no_files commands) a.answers a.calls) all a.are; unknown = a.unknown }, tt);
+        answered = (record { seen = no_files (commands_alone c.args.script.now.commands); answers = a.answers; are = subst (λ commands. AreCallsOf commands (no_files commands) a.answers a.calls) all a.are; unknown = a.unknown }, tt);
         legal = a.legal;
         printed = a.printed ∙ sym (append-nil (transcript c.args.name.now a.calls));
       };

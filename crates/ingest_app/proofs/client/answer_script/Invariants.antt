@@ -6,7 +6,7 @@ use Rattle.log_engine.specs.MarkStore.{StandsForState}
 use Rattle.st_model.specs.declared.state.ModelState.{ModelState}
 use Rattle.st_model.specs.State.{IsOpening}
 use Rattle.cmd_text.specs.declared.script.Numbered.{Numbered}
-use Rattle.ingest_app.specs.Client.{commands_of, transcript}
+use Rattle.ingest_app.specs.Client.{commands_alone, transcript}
 use Rattle.ingest_app.proofs.Along.{Along}
 use Rattle.ingest_app.proofs.client.answer_script.Given as goal
 
@@ -18,5 +18,5 @@ invariant-loop-numbered g l = record {
   cause : (l.engine.stopped ≡ None) ⊎ Rose (g.D.Disk.tells l.initial.engine.disk).faults (g.D.Disk.tells l.engine.disk).faults;
   tied : IsHonest (g.D.Disk.tells l.initial.engine.disk) → l.engine.stopped ≡ None → IsTied l.engine.wal l.engine.store (g.D.Disk.tells l.engine.disk);
   along : (opening : ModelState) → StandsForState l.initial.engine.store opening → IsOpening opening
-      → Along l.name l.text opening (g.D.Disk.tells l.initial.engine.disk) (g.D.Disk.tells l.engine.disk) l.engine.store l.engine.stopped (commands_of (take l.numbered-index l.numbered-items));
+      → Along l.name l.text opening (g.D.Disk.tells l.initial.engine.disk) (g.D.Disk.tells l.engine.disk) l.engine.store l.engine.stopped (commands_alone (take l.numbered-index l.numbered-items));
 }
