@@ -1,5 +1,5 @@
 -- A run, from the opening of the disk on.
-use Rattle.std.proofs.Common.{◌≡◌, ◌⊎◌, inl, inr, ⊎_elim, ℕ, Bool, true, false, cond, List, [], ◌∷◌, map, filter, take, fold, Some, Ok, refl, sym, ◌∙◌, ap, subst, zero-le}
+use Rattle.std.proofs.Common.{◌||◌, true≢false, ◌≡◌, ◌⊎◌, inl, inr, ⊎_elim, ℕ, Bool, true, false, cond, List, [], ◌∷◌, map, filter, take, fold, Some, Ok, refl, sym, ◌∙◌, ap, subst, zero-le}
 use Rattle.st_base.specs.Bytes.{default_family}
 use Rattle.st_base.specs.declared.entry.Entry.{Entry}
 use Rattle.st_base.specs.declared.entry.Mark.{Mark}
@@ -15,10 +15,37 @@ use Rattle.log_recover.specs.Opens.{IsDamageOf, last_number, opens}
 use Rattle.log_recover.specs.declared.fault.OpenFault.{OpenFault}
 use Rattle.log_recover.specs.declared.fault.OpenFault.TheVariants.{Damaged as DamagedFault, DiskFault as DiskFailed, OutOfMemory}
 use Rattle.st_wal.specs.declared.logged.Logged.{Logged}
-use Rattle.ingest_app.specs.Client.{ClientScript, EndsAnswered, AreClientsAnswered, IsRun, opening_of}
+use Rattle.ingest_app.specs.Client.{ClientScript, EndsAnswered, AreClientsAnswered, IsRun, answered_status, opening_of}
 use Rattle.ingest_app.specs.Run.{EndsOpening, EndsScripts, StaysAsRead}
 use Rattle.ingest_app.specs.declared.status.Status.{Status}
 use Rattle.ingest_app.specs.declared.status.Status.TheVariants.{Done, Refused, Memory, InputFault, DiskFault, SinkFault, Script, Damaged, NotYet}
+
+-- ---- clients that were answered
+
+module _ (clients : List ClientScript) (text : List ℕ) (opening : ModelState) (before after : DiskTold) where
+  -- the disk failed besides
+  answered_failed : (stopped : Bool) → AreClientsAnswered clients text opening before after stopped → AreClientsAnswered clients text opening before after true
+  answered_failed stopped a = record {
+    transcripts = a.transcripts;
+    answers = record {
+      answered = a.answers.answered;
+      legal = record a.answers.legal { causes = record { inputs = a.answers.legal.causes.inputs; disk = λ none. absurd (true≢false none); stopped = a.answers.legal.causes.stopped } };
+      printed = a.answers.printed;
+    };
+    moments = a.moments;
+    each_change = a.each_change;
+    in_turn = a.in_turn;
+    crash = a.crash;
+    kept = a.kept;
+    end = a.end;
+    whole = λ none. absurd (true≢false none);
+  }
+
+  -- they end so, by whether a fault stopped the store, or the count rose
+  pub answered_as : (stopped counted : Bool) → AreClientsAnswered clients text opening before after stopped → EndsAnswered clients opening before after (answered_status (stopped || counted)) text
+  answered_as true counted a = a
+  answered_as false true a = answered_failed false a
+  answered_as false false a = a
 
 -- ---- the run
 

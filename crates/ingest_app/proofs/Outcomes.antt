@@ -1,6 +1,6 @@
 -- The end of a run or a conversion whose outcome was handed to the sink.
 use Rattle.std.proofs.Common.{◌≡◌, inl, inr, ℕ, List, [], refl, sym, subst, append-nil}
-use Rattle.std.specs.Prelude.{IfOk, IsErr, Result, Ok, Err}
+use Rattle.std.specs.Prelude.{IfOk, IsErr, IsOkAnd, Result, Ok, Err}
 use Rattle.st_stream.specs.Sink.{SinkTold}
 use Rattle.ingest_app.specs.Run.{EndsWriting, Writes, WritesOutcome}
 use Rattle.ingest_app.specs.declared.outcome.Outcome.{Outcome}
@@ -37,3 +37,8 @@ module _ {K E : Type 0} (tells : K → SinkTold) (ends : Status → List ℕ →
   ended_of old new (Err error) status h wrote none =
       let is = none refl in
       subst (λ k. EndsWriting ends (tells old) (tells k) status) (sym is.1) (subst (EndsWriting ends (tells old) (tells old)) (sym is.0) (unwritten ends (tells old) memory))
+
+-- where the status is Done, what is said of an outcome of this status holds
+pub done_is_quiet : {E X : Type 0} (outcome : Result Outcome E) → IfOk outcome (λ outcome. outcome.status ≡ Done → X) → IsOkAnd outcome (λ outcome. outcome.status ≡ Done) → X
+done_is_quiet (Ok outcome) quiet done = quiet done
+done_is_quiet (Err error) quiet done = absurd done

@@ -87,7 +87,12 @@ pub record AreClientsAnswered (clients : List ClientScript) (text : List ℕ) (o
   pub whole : failed ≡ false → IsHonest before → (image : Image) → after.now image
       → OpensTo (state_now opening transcripts) image
 
--- whether a disk fault stopped the store, by the status of the run
+-- the status of a run whose clients were answered, by whether the disk failed
+abbrev pub answered_status : Bool → Status
+answered_status true = DiskFault
+answered_status false = Done
+
+-- whether the disk failed, by the status of the run
 abbrev pub EndsAnswered : List ClientScript → ModelState → DiskTold → DiskTold → Status → List ℕ → Type 0
 EndsAnswered clients opening before after Done text = AreClientsAnswered clients text opening before after false
 EndsAnswered clients opening before after DiskFault text = AreClientsAnswered clients text opening before after true

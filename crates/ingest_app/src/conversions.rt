@@ -108,6 +108,8 @@ fn convert_source<S: Source>(
 ) -> Result<Outcome, AllocError>
     ensures ends { IfOk result
         (λ outcome. EndsSource form (S.tells source.old) (S.tells source.new) outcome.status outcome.text) }
+    ensures quiet { IfOk result (λ outcome. outcome.status ≡ Status.Done
+        → (S.tells source.new).faults ≡ (S.tells source.old).faults) }
 {
     match read_source(alloc, source, SOURCE_BYTES) {
         Ok(read) => convert_read(alloc, form, read),
@@ -123,10 +125,12 @@ fn convert_words<S: Source, K: Sink>(
     source: &mut S,
     sink: &mut K,
 ) -> Status
-    ensures { MatchOption (conversion_of (map string_bytes words.now))
+    ensures ended { MatchOption (conversion_of (map string_bytes words.now))
         (EndsWriting EndsNoForm (K.tells sink.old) (K.tells sink.new) result)
         (λ form. Converted form (S.tells source.old) (S.tells source.new) (K.tells sink.old)
         (K.tells sink.new) result) }
+    ensures quiet { result ≡ Status.Done → ((S.tells source.new).faults ≡ (S.tells source.old).faults)
+        × ((K.tells sink.new).faults ≡ (K.tells sink.old).faults) }
 {
     match conversion_of(words) {
         Some(form) => {
@@ -164,6 +168,9 @@ pub fn convert<S: Source, K: Sink>(
         → IsSomeAnd (conversion_of (map string_bytes words.now))
         (λ form. IsTrue (S.tells source.old).known → IsUnconvertible form (S.tells source.old).left) }
 
+    // Done comes only where no count of faults rose.
+    ensures quiet { result ≡ Status.Done → ((S.tells source.new).faults ≡ (S.tells source.old).faults)
+        × ((K.tells sink.new).faults ≡ (K.tells sink.old).faults) }
     ensures memory { result ≡ Status.Memory → Writes (K.tells sink.old) (K.tells sink.new) [] }
 
     // Words that ask for a conversion are answered, where nothing fails and memory is there.

@@ -9,7 +9,8 @@ ghost use Rattle.log_engine.specs.Engine.{IsTied};
 ghost use Rattle.log_engine.specs.MarkStore.{StandsForState};
 ghost use Rattle.st_model.specs.declared.state.ModelState.{ModelState};
 ghost use Rattle.st_model.specs.State.{IsOpening};
-ghost use Rattle.ingest_app.specs.Client.{EndsAnswered};
+ghost use Rattle.st_base.specs.Count.{Rose};
+ghost use Rattle.ingest_app.specs.Client.{EndsAnswered, answered_status};
 ghost use Rattle.ingest_app.specs.Op.{IsServed};
 ghost use Rattle.ingest_app.specs.Run.{client_of, Ends, EndsNamed, EndsClient, EndsOpening, EndsScripts, Faulted, IsBeforeDisk, IsOfFile, damaged_text, input_text, one_client, script_text, not_yet_text};
 ghost use Rattle.st_stream.specs.FileRead.{file_read, IsFileWithin};
@@ -82,13 +83,26 @@ fn damaged_text(alloc: Global, file: u64, at: u64) -> Result<Bytes, AllocError>
     Ok(text)
 }
 
-// The status and the text of a store that was answered, and the disk.
+// The status of clients that were answered, by whether the disk failed.
+fn answered_status(failed: bool) -> Status
+    ensures { result ≡ answered_status failed }
+{
+    if failed {
+        Status::DiskFault
+    } else {
+        Status::Done
+    }
+}
+
+// The status and the text of a store that was answered, and the disk, whose count of faults was this before the opening.
 fn run_engine<D: Disk>(
     alloc: Global,
     name: &str,
     script: &Script,
     mut engine: Engine<D>,
+    faults: u64,
 ) -> (Result<Outcome, AllocError>, D)
+    requires before { faults ≤ (D.tells engine.disk).faults }
     requires served { Each (λ numbered. IsServed numbered.command) script.now.commands }
     requires tied { IsHonest (D.tells engine.disk) → IsTied engine.wal engine.store (D.tells engine.disk) }
     requires running { engine.stopped ≡ None }
@@ -98,18 +112,17 @@ fn run_engine<D: Disk>(
         → EndsAnswered (one_client name.now script.now.commands) opening (D.tells engine.disk)
         (D.tells result.1) outcome.status outcome.text) }
     ensures fault { IfOk result.0
-        (λ outcome. outcome.status ≡ Status.DiskFault → Faulted (D.tells engine.disk) (D.tells result.1)) }
+        (λ outcome. outcome.status ≡ Status.DiskFault → Rose faults (D.tells result.1).faults) }
+    ensures quiet { IfOk result.0 (λ outcome. outcome.status ≡ Status.Done → (D.tells result.1).faults ≡ faults) }
     ensures passes { Passes (D.tells engine.disk) (D.tells result.1) }
 {
     let answered = answer_script(alloc, name, script, &mut engine);
-    let status = if engine.stopped().is_some() {
-        Status::DiskFault
-    } else {
-        Status::Done
-    };
+    let stopped = engine.stopped().is_some();
+    let disk = engine.close();
+    let status = answered_status(stopped || disk.faults() != faults);
     match answered {
-        Ok(text) => (Ok(Outcome { status, text }), engine.close()),
-        Err(_) => (Err(AllocError), engine.close()),
+        Ok(text) => (Ok(Outcome { status, text }), disk),
+        Err(_) => (Err(AllocError), disk),
     }
 }
 
@@ -143,14 +156,17 @@ fn run_script<D: Disk>(
         (D.tells result.1) outcome.status outcome.text) }
     ensures fault { IfOk result.0
         (λ outcome. outcome.status ≡ Status.DiskFault → Faulted (D.tells disk) (D.tells result.1)) }
+    ensures quiet { IfOk result.0
+        (λ outcome. outcome.status ≡ Status.Done → (D.tells result.1).faults ≡ (D.tells disk).faults) }
     ensures passes { Passes (D.tells disk) (D.tells result.1) }
 {
     let options = Options {
         behind: false,
         capacity: CAPACITY,
     };
+    let faults = disk.faults();
     match Engine::open(alloc, disk, options) {
-        Ok(engine) => run_engine(alloc, name, script, engine),
+        Ok(engine) => run_engine(alloc, name, script, engine, faults),
         Err((disk, fault)) => (unopened(alloc, fault), disk),
     }
 }
@@ -169,6 +185,8 @@ fn run_text<D: Disk>(
     ensures fault { IfOk result.0
         (λ outcome. outcome.status ≡ Status.DiskFault → Faulted (D.tells disk) (D.tells result.1)) }
     ensures disk_untouched { IfOk result.0 (λ outcome. IsBeforeDisk outcome.status → result.1 ≡ disk) }
+    ensures quiet { IfOk result.0
+        (λ outcome. outcome.status ≡ Status.Done → (D.tells result.1).faults ≡ (D.tells disk).faults) }
     ensures passes { Passes (D.tells disk) (D.tells result.1) }
 {
     match read_script(alloc, text) {
@@ -202,6 +220,8 @@ fn run_file<D: Disk>(
     ensures fault { IfOk result.0
         (λ outcome. outcome.status ≡ Status.DiskFault → Faulted (D.tells disk) (D.tells result.1)) }
     ensures disk_untouched { IfOk result.0 (λ outcome. IsBeforeDisk outcome.status → result.1 ≡ disk) }
+    ensures quiet { IfOk result.0
+        (λ outcome. outcome.status ≡ Status.Done → (D.tells result.1).faults ≡ (D.tells disk).faults) }
     ensures passes { Passes (D.tells disk) (D.tells result.1) }
 {
     match read {
@@ -233,6 +253,8 @@ fn run_client<D: Disk, I: Inputs>(
         (λ outcome. EndsNamed name.now (I.tells inputs.old) (I.tells inputs.new) (D.tells disk)
         (D.tells result.1) outcome.status outcome.text) }
     ensures disk_untouched { IfOk result.0 (λ outcome. IsBeforeDisk outcome.status → result.1 ≡ disk) }
+    ensures quiet { IfOk result.0
+        (λ outcome. outcome.status ≡ Status.Done → (D.tells result.1).faults ≡ (D.tells disk).faults) }
     ensures passes { Passes (D.tells disk) (D.tells result.1) }
     ensures inputs_untouched { InputsUntouched (I.tells inputs.old) (I.tells inputs.new) }
 {
@@ -264,6 +286,8 @@ pub fn outcome_of<D: Disk, I: Inputs>(
         (λ outcome. Ends (map string_bytes words.now) (I.tells inputs.old) (I.tells inputs.new) (D.tells disk)
         (D.tells result.1) outcome.status outcome.text) }
     ensures disk_untouched { IfOk result.0 (λ outcome. IsBeforeDisk outcome.status → result.1 ≡ disk) }
+    ensures quiet { IfOk result.0
+        (λ outcome. outcome.status ≡ Status.Done → (D.tells result.1).faults ≡ (D.tells disk).faults) }
     ensures passes { Passes (D.tells disk) (D.tells result.1) }
     ensures inputs_untouched { InputsUntouched (I.tells inputs.old) (I.tells inputs.new) }
 {

@@ -24,6 +24,8 @@ fn run_words<D: Disk, I: Inputs, K: Sink>(
 ) -> (Status, D)
     ensures ended { Ended (map string_bytes words.now) (I.tells inputs.old) (I.tells inputs.new) (D.tells disk)
         (D.tells result.1) (K.tells sink.old) (K.tells sink.new) result.0 }
+    ensures quiet { result.0 ≡ Status.Done → ((D.tells result.1).faults ≡ (D.tells disk).faults)
+        × ((K.tells sink.new).faults ≡ (K.tells sink.old).faults) }
     ensures disk_untouched { IsBeforeDisk result.0 → result.1 ≡ disk }
     ensures passes { Passes (D.tells disk) (D.tells result.1) }
     ensures inputs_untouched { InputsUntouched (I.tells inputs.old) (I.tells inputs.new) }
@@ -46,6 +48,9 @@ fn run_form<D: Disk, I: Inputs, S: Source, K: Sink>(
         (K.tells sink.old) (K.tells sink.new) result.0)
         (λ form. Converted form (S.tells source.old) (S.tells source.new) (K.tells sink.old)
         (K.tells sink.new) result.0) }
+    ensures quiet { result.0 ≡ Status.Done → ((D.tells result.1).faults ≡ (D.tells disk).faults)
+        × ((S.tells source.new).faults ≡ (S.tells source.old).faults)
+        × ((K.tells sink.new).faults ≡ (K.tells sink.old).faults) }
     ensures inputs_untouched { InputsUntouched (I.tells inputs.old) (I.tells inputs.new) }
     ensures passes { Passes (D.tells disk) (D.tells result.1) }
     ensures disk_untouched { IsBeforeDisk result.0 → result.1 ≡ disk }
@@ -104,6 +109,10 @@ pub fn run<D: Disk, I: Inputs, S: Source, K: Sink>(
         → IsSomeAnd (conversion_of (map string_bytes words.now))
         (λ form. IsTrue (S.tells source.old).known → IsUnconvertible form (S.tells source.old).left) }
 
+    // Done comes only where no count of faults rose: of the disk, the source and the sink.
+    ensures quiet { result.0 ≡ Status.Done → ((D.tells result.1).faults ≡ (D.tells disk).faults)
+        × ((S.tells source.new).faults ≡ (S.tells source.old).faults)
+        × ((K.tells sink.new).faults ≡ (K.tells sink.old).faults) }
     ensures memory { result.0 ≡ Status.Memory → Writes (K.tells sink.old) (K.tells sink.new) [] }
 
     // Words that ask for a run of a script over a store, or for a conversion, are answered, where nothing fails and memory

@@ -1,5 +1,5 @@
 //! The writing of an outcome.
-ghost use Rattle.std.specs.Prelude.{◌≡◌, IfOk, IsErr};
+ghost use Rattle.std.specs.Prelude.{◌≡◌, IfOk, IsErr, IsOkAnd};
 ghost use Rattle.ingest_app.specs.Run.{Writes, WritesOutcome};
 
 use crate::outcome::Outcome;
@@ -11,6 +11,8 @@ use std::alloc::AllocError;
 pub fn write_outcome<K: Sink>(sink: &mut K, outcome: Result<Outcome, AllocError>) -> Status
     ensures wrote { IfOk outcome
         (λ outcome. WritesOutcome outcome.status outcome.text (K.tells sink.old) (K.tells sink.new) result) }
+    ensures quiet { result ≡ Status.Done → IsOkAnd outcome (λ outcome. outcome.status ≡ Status.Done)
+        × ((K.tells sink.new).faults ≡ (K.tells sink.old).faults) }
     ensures memory { IsErr outcome → (result ≡ Status.Memory) × (sink.new ≡ sink.old) }
 {
     match outcome {

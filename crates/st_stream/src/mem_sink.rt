@@ -64,6 +64,7 @@ impl Sink for MemSink {
         ensures within { IfOk result (λ n. n ≤ length bytes.now) }
         ensures some { IfOk result (λ n. 0 < length bytes.now → 0 < n) }
         ensures failed { OnErr result (Rose (mem_sink_told self.old).faults (mem_sink_told self.new).faults) }
+        ensures quiet { OnOk result ((mem_sink_told self.new).faults ≡ (mem_sink_told self.old).faults) }
         ensures known { (mem_sink_told self.new).known ≡ (mem_sink_told self.old).known }
         ensures faults { (mem_sink_told self.old).faults ≤ (mem_sink_told self.new).faults }
         ensures all { IfOk result (λ n. n ≡ length bytes.now) }

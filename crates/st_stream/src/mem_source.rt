@@ -1,4 +1,4 @@
-ghost use Rattle.std.specs.Prelude.{◌≡◌, ◌≤◌, ◌<◌, List as Items, ℕ, length, min, IfOk, OnErr, IsTrue, is_err};
+ghost use Rattle.std.specs.Prelude.{◌≡◌, ◌≤◌, ◌<◌, List as Items, ℕ, length, min, IfOk, OnOk, OnErr, IsTrue, is_err};
 ghost use Rattle.st_base.specs.Count.{Rose, greatest_count};
 ghost use Rattle.st_stream.specs.Source.{TakesBytes};
 ghost use Rattle.st_outside.specs.FailingCalls.{CountsCall, fails_next};
@@ -49,6 +49,7 @@ impl Source for MemSource {
             → OnErr result ((mem_source_told self.new).left ≡ (mem_source_told self.old).left) }
         ensures within { IfOk result (λ n. n ≤ length buffer.old) }
         ensures failed { OnErr result (Rose (mem_source_told self.old).faults (mem_source_told self.new).faults) }
+        ensures quiet { OnOk result ((mem_source_told self.new).faults ≡ (mem_source_told self.old).faults) }
         ensures known { (mem_source_told self.new).known ≡ (mem_source_told self.old).known }
         ensures faults { (mem_source_told self.old).faults ≤ (mem_source_told self.new).faults }
         ensures all { IfOk result (λ n. n ≡ min (length buffer.old) (length (mem_source_told self.old).left)) }

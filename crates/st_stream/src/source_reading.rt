@@ -1,4 +1,4 @@
-ghost use Rattle.std.specs.Prelude.{◌≡◌, ◌+◌, ◌<◌, ◌≤◌, ◌^◌, [], List, ℕ, length, IfOk, IsErrOf, IsTrue};
+ghost use Rattle.std.specs.Prelude.{◌≡◌, ◌+◌, ◌<◌, ◌≤◌, ◌^◌, [], List, ℕ, length, IfOk, IsErrOf, OnOk, IsTrue};
 ghost use Rattle.st_base.specs.Count.{Rose};
 ghost use Rattle.st_stream.specs.Source.{TakesPrefix};
 ghost use Rattle.st_stream.specs.SourceRead.{source_read, LeavesNone, IsReadWithin};
@@ -35,6 +35,7 @@ pub fn read_source<S: Source>(
         → TakesPrefix (S.tells source.old).left (S.tells source.new).left }
     ensures within { IfOk result (λ read. IsReadWithin limit read) }
     ensures failed { IsErrOf result ReadFault.Failed → Rose (S.tells source.old).faults (S.tells source.new).faults }
+    ensures quiet { OnOk result ((S.tells source.new).faults ≡ (S.tells source.old).faults) }
     ensures known { (S.tells source.new).known ≡ (S.tells source.old).known }
     ensures faults { (S.tells source.old).faults ≤ (S.tells source.new).faults }
 {
@@ -57,6 +58,7 @@ fn read_pieces<S: Source>(
         → TakesPrefix (S.tells source.old).left (S.tells source.new).left }
     ensures within { IfOk result (λ read. IsReadWithin limit read) }
     ensures failed { IsErrOf result ReadFault.Failed → Rose (S.tells source.old).faults (S.tells source.new).faults }
+    ensures quiet { OnOk result ((S.tells source.new).faults ≡ (S.tells source.old).faults) }
     ensures known { (S.tells source.new).known ≡ (S.tells source.old).known }
     ensures faults { (S.tells source.old).faults ≤ (S.tells source.new).faults }
 {

@@ -12,6 +12,7 @@ pub fn write_all<K: Sink>(sink: &mut K, bytes: &[u8]) -> Result<(), Failed>
     ensures err { IsTrue (K.tells sink.old).known
         → OnErr result (AppendsPrefix (K.tells sink.old).written (K.tells sink.new).written bytes.now) }
     ensures failed { OnErr result (Rose (K.tells sink.old).faults (K.tells sink.new).faults) }
+    ensures quiet { OnOk result ((K.tells sink.new).faults ≡ (K.tells sink.old).faults) }
     ensures known { (K.tells sink.new).known ≡ (K.tells sink.old).known }
     ensures faults { (K.tells sink.old).faults ≤ (K.tells sink.new).faults }
 {

@@ -9,7 +9,7 @@ invariant-loop-bytes g l =
       within : length l.bytes + l.room ≡ l.limit;
       came : IsTrue (tells l.fn.source).known → l.bytes ++ (tells l.source).left ≡ (tells l.fn.source).left;
       known : (tells l.source).known ≡ (tells l.fn.source).known;
-      faults : (tells l.fn.source).faults ≤ (tells l.source).faults;
+      faults : (tells l.source).faults ≡ (tells l.fn.source).faults;
     }
 
 abbrev pub decreases-loop-bytes : goal.decreases-loop-bytes

@@ -10,5 +10,5 @@ loop-done-preserved g c = record {
       let still : IsTrue (g.K.Sink.tells c.loop-done.sink).known = rw c.loop-done.invariant.known known in
       appends_more _ _ _ c.args.bytes.now c.loop-done.done c.in_ok-done.field-0 (c.loop-done.invariant.written known) (c.in_ok-done.ensures.written still);
   known = c.write.ensures.known ∙ c.loop-done.invariant.known;
-  faults = omega (arith, c.loop-done.invariant.faults, c.write.ensures.faults);
+  faults = c.in_ok-done.ensures.quiet ∙ c.loop-done.invariant.faults;
 }

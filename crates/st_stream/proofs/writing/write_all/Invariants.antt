@@ -10,7 +10,7 @@ invariant-loop-done g l =
       within : l.done ≤ length l.bytes;
       written : IsTrue (tells l.fn.sink).known → AppendsFirst (tells l.fn.sink).written (tells l.sink).written l.bytes l.done;
       known : (tells l.sink).known ≡ (tells l.fn.sink).known;
-      faults : (tells l.fn.sink).faults ≤ (tells l.sink).faults;
+      faults : (tells l.sink).faults ≡ (tells l.fn.sink).faults;
     }
 
 abbrev pub decreases-loop-done : goal.decreases-loop-done
