@@ -17,7 +17,7 @@ use st_code::{push_fixed64, read_fixed64};
 use std::alloc::AllocError;
 use std::cmp::Ordering;
 
-/// How many bytes an internal key has behind its key.
+/// How many bytes an internal key has after its key.
 pub const PACKED_BYTES: usize = 8;
 
 /// How many kinds there may be: by so much a sequence number is multiplied before the kind is added.
