@@ -1,16 +1,16 @@
--- Entries in an arena stay where they are as it grows, and act under a number where they lie.
-use Rattle.std.proofs.Common.{◌≡◌, ℕ, ◌+◌, ◌-◌, ◌≤◌, eqb, false, List, [], ◌∷◌, ◌++◌, length, take, drop, Option, Some, None, refl, sym, ap, ◌∙◌, arith}
-use Rattle.std.specs.Prelude.{map, slice_range}
+-- Entries in an arena stay where they are as it grows.
+use Rattle.std.proofs.Common.{◌≡◌, ℕ, ◌+◌, ◌-◌, ◌*◌, ◌≤◌, List, [], ◌∷◌, ◌++◌, length, take, drop, Option, Some, None, refl, sym, ap, subst, ◌∙◌, arith}
+use Rattle.std.specs.Prelude.{map, slice_range, sum_by}
 use Rattle.std.specs.List.{AllByRecursion}
 use Rattle.std.proofs.Math.Seq.{drop-append_seam}
+use Rattle.std.proofs.lemmas.List.Sums.{sum_by_push}
 use Rattle.std.proofs.lemmas.List.{drop-take, length-append, map-append, take-append-drop, take-append-le}
 use Rattle.st_base.specs.declared.entry.Entry.{Entry}
 use Rattle.st_base.specs.declared.entry.Mark.{Mark}
 use Rattle.st_base.specs.declared.entry.Mark.TheVariants.{Put}
-use Rattle.st_table.specs.EntryArena.{EndsValue, Lies, entry_in, mark_in, slot_numbered}
-use Rattle.st_table.specs.Table.{act_under, acting}
+use Rattle.st_base.specs.Entries.{entry_charge}
+use Rattle.st_table.specs.EntryArena.{AddsEntry, EndsValue, Fill, Lies, entry_in, mark_in}
 use Rattle.st_table.specs.declared.entry_arena.EntrySlot.{EntrySlot}
-use Rattle.st_table.proofs.Acting.{act_other}
 
 -- ---- growing: what the old arena held is the front of the new one
 
@@ -77,28 +77,37 @@ entry_is old key middle new start key_end number end mark s i k e m =
     ∙ ap (λ (n : ℕ). let x : Entry = record { key = key; number = number; mark = mark_in new n end } in x) k
     ∙ ap (λ (x : Mark). let y : Entry = record { key = key; number = number; mark = x } in y) m
 
-pub entries_more : (old new : List ℕ) (slots : List EntrySlot) (slot : EntrySlot) (entry : Entry) → take (length old) new ≡ old → AllByRecursion (Lies (length old)) slots → entry_in new slot ≡ entry
+entries_more : (old new : List ℕ) (slots : List EntrySlot) (slot : EntrySlot) (entry : Entry) → take (length old) new ≡ old → AllByRecursion (Lies (length old)) slots → entry_in new slot ≡ entry
     → map (entry_in new) (slots ++ slot ∷ []) ≡ map (entry_in old) slots ++ entry ∷ []
 entries_more old new slots slot entry e h is =
     map-append (entry_in new) slots (slot ∷ [])
     ∙ ap (λ (l : List Entry). l ++ entry_in new slot ∷ []) (entries_kept old new slots e h)
     ∙ ap (λ (x : Entry). map (entry_in old) slots ++ x ∷ []) is
 
-pub lie_more : (old new : List ℕ) (slots : List EntrySlot) → take (length old) new ≡ old → AllByRecursion (Lies (length old)) slots → AllByRecursion (Lies (length new)) slots
+lie_more : (old new : List ℕ) (slots : List EntrySlot) → take (length old) new ≡ old → AllByRecursion (Lies (length old)) slots → AllByRecursion (Lies (length new)) slots
 lie_more old new slots e h = lies_more (length old) (length new) slots (longer old new e) h
 
-pub lie_with : (size : ℕ) (slots : List EntrySlot) (slot : EntrySlot) → AllByRecursion (Lies size) slots → Lies size slot → AllByRecursion (Lies size) (slots ++ slot ∷ [])
+lie_with : (size : ℕ) (slots : List EntrySlot) (slot : EntrySlot) → AllByRecursion (Lies size) slots → Lies size slot → AllByRecursion (Lies size) (slots ++ slot ∷ [])
 lie_with size [] slot h l = (l, tt)
 lie_with size (one ∷ slots) slot h l = (h.0, lie_with size slots slot h.1 l)
 
--- ---- under a number
+-- what an entry more leaves
+pub record HoldsMore (old new : List ℕ) (slots more : List EntrySlot) (entry : Entry) : Type 0 where
+  pub entries : map (entry_in new) more ≡ map (entry_in old) slots ++ entry ∷ []
+  pub fill : Fill new more
 
-pub numbered_are : (bytes : List ℕ) (number : ℕ) (slots : List EntrySlot) → eqb number 0 ≡ false → map (entry_in bytes) (map (slot_numbered number) slots) ≡ acting number (map (entry_in bytes) slots)
-numbered_are bytes number [] f = refl
-numbered_are bytes number (slot ∷ slots) f =
-    ap (λ (x : Entry). x ∷ map (entry_in bytes) (map (slot_numbered number) slots)) (sym (act_other number (entry_in bytes slot) f))
-    ∙ ap (λ (l : List Entry). act_under number (entry_in bytes slot) ∷ l) (numbered_are bytes number slots f)
+abbrev charge_of : Entry → ℕ
+charge_of entry = entry_charge entry.key entry.mark
 
-pub numbered_lie : (size number : ℕ) (slots : List EntrySlot) → AllByRecursion (Lies size) slots → AllByRecursion (Lies size) (map (slot_numbered number) slots)
-numbered_lie size number [] h = tt
-numbered_lie size number (slot ∷ slots) h = (record { key_ends = h.0.key_ends; value_ends = h.0.value_ends }, numbered_lie size number slots h.1)
+pub holds_more : (old new : List ℕ) (slots more : List EntrySlot) (entry : Entry) → take (length old) new ≡ old → Fill old slots → AddsEntry old new slots more entry → HoldsMore old new slots more entry
+holds_more old new slots more entry kept fill adds =
+    let entries : map (entry_in new) more ≡ map (entry_in old) slots ++ entry ∷ [] = ap (map (entry_in new)) adds.appended ∙ entries_more old new slots adds.at entry kept fill.lie adds.is in
+    let sum : sum_by charge_of (map (entry_in new) more) ≡ sum_by charge_of (map (entry_in old) slots) + charge_of entry = ap (sum_by charge_of) entries ∙ sum_by_push charge_of (map (entry_in old) slots) entry in
+    let count : length more ≡ length slots + 1 = omega (arith, ap length adds.appended, length-append slots (adds.at ∷ [])) in
+    record {
+      entries = entries;
+      fill = record {
+        lie = subst (λ (l : List EntrySlot). AllByRecursion (Lies (length new)) l) (sym adds.appended) (lie_with (length new) slots adds.at (lie_more old new slots kept fill.lie) adds.lies);
+        full = sum ∙ (let e : sum_by charge_of (map (entry_in old) slots) + charge_of entry ≡ 32 * length more + length new = omega (arith, fill.full, count, adds.longer) in e);
+      };
+    }

@@ -1,5 +1,5 @@
 -- Entries with one more behind them are rows again.
-use Rattle.std.proofs.Common.{◌≡◌, ℕ, suc, ◌-◌, ◌≤◌, Bool, true, false, cond, ltb, eqb, List, [], ◌∷◌, ◌++◌, length, Option, Some, None, refl, sym, ap, ◌∙◌, arith}
+use Rattle.std.proofs.Common.{◌≡◌, ℕ, suc, ◌-◌, ◌^◌, ◌<◌, ◌≤◌, Bool, true, false, cond, ltb, eqb, List, [], ◌∷◌, ◌++◌, length, Option, Some, None, refl, sym, ap, ◌∙◌, arith}
 use Rattle.std.specs.Prelude.{not, slice_get}
 use Rattle.std.specs.List.{AllByRecursion}
 use Rattle.std.proofs.lemmas.Bool.{and_parts, and_from, ltb-false}
@@ -48,8 +48,8 @@ pub record Passes (kind : TableKind) (before : Option Entry) (internal value : L
   pub size : length value ≤ 1048576
   pub behind : is_behind before (user_key internal) (number_of internal) ≡ true
 
-pub passes_of : (kind : TableKind) (place : ℕ) (before : Option Entry) (internal value : List ℕ) → entry_fault kind place before internal value ≡ None → Passes kind before internal value
-passes_of kind place before internal value e =
+pub passes_of : (kind : TableKind) (index : ℕ) (before : Option Entry) (internal value : List ℕ) → entry_fault kind index before internal value ≡ None → Passes kind before internal value
+passes_of kind index before internal value e =
     let p = without (is_kind (kind_of internal) value) (may_have kind (number_of internal)) (ltb 1048576 (length value)) (is_behind before (user_key internal) (number_of internal)) _ _ _ _ e in
     record { kind_fits = p.0; number_fits = p.1; size = ltb-false _ _ p.2; behind = p.3 }
 
@@ -60,18 +60,18 @@ mark_fits kind value le = by_kind (eqb kind 0)
     by_kind true = tt
     by_kind false = le
 
-pub rows_more : (kind : TableKind) (front : List Entry) (internal value : List ℕ) → entry_fault kind (length front) (last_entry front) internal value ≡ None → length internal ≤ 65543 → AreRows front → AreRows (front ++ entry_under internal value ∷ [])
-rows_more kind front internal value e room rows =
+pub rows_more : (kind : TableKind) (front : List Entry) (internal value : List ℕ) → entry_fault kind (length front) (last_entry front) internal value ≡ None → length internal ≤ 65543 → number_of internal < 2 ^ 64 → AreRows front → AreRows (front ++ entry_under internal value ∷ [])
+rows_more kind front internal value e room small rows =
     let p = passes_of kind (length front) (last_entry front) internal value e in
     record {
       ordered = order_more front (entry_under internal value) rows.ordered p.behind;
-      within = fits_more front (entry_under internal value) rows.within (omega (arith, length-take (length internal - 8) internal), mark_fits (kind_of internal) value p.size);
+      within = fits_more front (entry_under internal value) rows.within (record { key = omega (arith, length-take (length internal - 8) internal); mark = mark_fits (kind_of internal) value p.size; number = small });
     }
 
 -- what the tests of an entry found, in the words of the list that it is put behind
-pub no_fault : (kind : TableKind) (front : List Entry) (place : ℕ) (before : Option Entry) (internal value : List ℕ) → place ≡ length front → before ≡ last_entry front
-    → entry_fault kind place before internal value ≡ None → entry_fault kind (length front) (last_entry front) internal value ≡ None
-no_fault kind front place before internal value p b e =
+pub no_fault : (kind : TableKind) (front : List Entry) (index : ℕ) (before : Option Entry) (internal value : List ℕ) → index ≡ length front → before ≡ last_entry front
+    → entry_fault kind index before internal value ≡ None → entry_fault kind (length front) (last_entry front) internal value ≡ None
+no_fault kind front index before internal value p b e =
     ap (λ (n : ℕ). entry_fault kind n (last_entry front) internal value) (sym p)
-    ∙ ap (λ (o : Option Entry). entry_fault kind place o internal value) (sym b)
+    ∙ ap (λ (o : Option Entry). entry_fault kind index o internal value) (sym b)
     ∙ e

@@ -7,6 +7,7 @@ use Rattle.std.proofs.lemmas.Bool.{and_parts, and_from, le-ltb, ne_eqb, eqb-true
 use Rattle.std.proofs.lemmas.List.{append-nil, map-append}
 use Rattle.st_base.specs.Bytes.{below, bytes_cmp}
 use Rattle.st_base.specs.Order.{comes_before, in_order, rises_behind}
+use Rattle.st_base.specs.Range.{keys_rise}
 use Rattle.st_base.specs.declared.entry.Entry.{Entry}
 use Rattle.st_base.specs.declared.faults.TableFault.{TableFault}
 use Rattle.st_base.specs.declared.faults.TableFault.TheVariants.{Index as IndexFault, Kind, Number, Order, TooLarge}
@@ -23,7 +24,7 @@ use Rattle.st_table.specs.Metaindex.{properties_handle, value_offset}
 use Rattle.st_table.specs.Properties.{properties_fault}
 use Rattle.st_table.specs.Steps.{◌>>=◌, Fails, unless}
 use Rattle.st_table.specs.Stored.{block_at}
-use Rattle.st_table.specs.Table.{IsFirstFault, table_fault_of, first_fault, keys_rise, table_of}
+use Rattle.st_table.specs.Table.{IsFirstFault, table_fault_of, first_fault, properties_of, table_of}
 use Rattle.st_table.specs.declared.fault.OpenTableFault.{OpenTableFault}
 use Rattle.st_table.specs.declared.fault.OpenTableFault.TheVariants.{Bad, OutOfMemory}
 use Rattle.st_table.specs.declared.kind.TableKind.{TableKind}
@@ -181,12 +182,12 @@ ok_with_blocks kind bytes at end (cell ∷ cells) (b ∷ blocks) block before fr
 -- ---- the table
 
 pub table_is : (bytes : List ℕ) (kind : TableKind) (entries : List Entry) → table_of kind bytes ≡ Ok entries → IsTable bytes kind entries
-unfolding table_of
+unfolding table_of properties_of
 table_is bytes kind entries e =
     let f = bind_ok (footer_of kind bytes) _ entries e in
-    let m = bind_ok (block_at Plain bytes f.0.metaindex) _ entries f.2 in
-    let h = bind_ok (properties_handle bytes f.0.metaindex.offset m.0) _ entries m.2 in
-    let p = bind_ok (block_at Plain bytes h.0) _ entries h.2 in
+    let p = bind_ok (properties_of bytes f.0.metaindex) _ entries f.2 in
+    let m = bind_ok (block_at Plain bytes f.0.metaindex) _ p.0 p.1 in
+    let h = bind_ok (properties_handle bytes f.0.metaindex.offset m.0) _ p.0 m.2 in
     let u = unless_ok (properties_fault kind p.0) _ entries p.2 in
     let i = bind_ok (block_at Index bytes f.0.index) _ entries u.1 in
     let footer = footer_ok kind bytes f.0 f.1 in
@@ -198,7 +199,7 @@ table_is bytes kind entries e =
         footer = footer.1;
         metaindex = block_at_ok Plain bytes f.0.metaindex m.0 footer.2 m.1;
         names = names.0;
-        properties = block_at_ok Plain bytes h.0 p.0 names.1 p.1;
+        properties = block_at_ok Plain bytes h.0 p.0 names.1 h.2;
         values = properties_ok kind p.0 u.0;
         index = block_at_ok Index bytes f.0.index i.0 footer.3 i.1;
         data_blocks = d.1;
@@ -209,18 +210,19 @@ table_is bytes kind entries e =
     )
 
 pub is_table : (bytes : List ℕ) (kind : TableKind) (entries : List Entry) → IsTable bytes kind entries → table_of kind bytes ≡ Ok entries
-unfolding table_of
+unfolding table_of properties_of
 is_table bytes kind entries t =
     let b = t.0 in
     let a = t.1 in
     let data' = ok_with_blocks kind bytes b.footer.index.offset b.index.end b.index.cells b.data_blocks 0 [] [] a.data_blocks a.fit (sym (ap in_order a.entries_are) ∙ a.ordered) in
     ok_bind (footer_of kind bytes) _ b.footer entries (ok_footer kind bytes b.footer a.size a.footer (stored_lies bytes Plain b.footer.metaindex b.metaindex a.metaindex) (stored_lies bytes Index b.footer.index b.index a.index))
-    (ok_bind (block_at Plain bytes b.footer.metaindex) _ b.metaindex entries (ok_block_at Plain bytes b.footer.metaindex b.metaindex a.metaindex)
-    (ok_bind (properties_handle bytes b.footer.metaindex.offset b.metaindex) _ b.properties_handle entries (ok_names bytes b.footer.metaindex.offset b.metaindex b.properties_handle a.names (stored_lies bytes Plain b.properties_handle b.properties a.properties))
-    (ok_bind (block_at Plain bytes b.properties_handle) _ b.properties entries (ok_block_at Plain bytes b.properties_handle b.properties a.properties)
+    (ok_bind (properties_of bytes b.footer.metaindex) _ b.properties entries
+    (ok_bind (block_at Plain bytes b.footer.metaindex) _ b.metaindex b.properties (ok_block_at Plain bytes b.footer.metaindex b.metaindex a.metaindex)
+    (ok_bind (properties_handle bytes b.footer.metaindex.offset b.metaindex) _ b.properties_handle b.properties (ok_names bytes b.footer.metaindex.offset b.metaindex b.properties_handle a.names (stored_lies bytes Plain b.properties_handle b.properties a.properties))
+    (ok_block_at Plain bytes b.properties_handle b.properties a.properties)))
     (ap (λ (o : Option TableFault). unless o (block_at Index bytes b.footer.index >>= data_of kind bytes b.footer.index.offset)) (ok_properties kind b.properties a.values)
     ∙ ok_bind (block_at Index bytes b.footer.index) (data_of kind bytes b.footer.index.offset) b.index entries (ok_block_at Index bytes b.footer.index b.index a.index)
-    (data' ∙ ap (λ (l : List Entry). let r : Result (List Entry) TableFault = Ok l in r) (sym a.entries_are))))))
+    (data' ∙ ap (λ (l : List Entry). let r : Result (List Entry) TableFault = Ok l in r) (sym a.entries_are))))
 
 -- ---- the first fault
 

@@ -8,7 +8,7 @@ use Rattle.std.specs.Prelude.{ℕ, ◌-◌, not, ◌==◌, nat_lt, List, ◌∷�
 use Rattle.std.specs.Int.{w32, w64, from_le_bytes}
 use Rattle.st_base.specs.declared.faults.TableFault.{TableFault}
 use Rattle.st_base.specs.declared.faults.TableFault.TheVariants.{TooLarge, Short, Magic, Version, Checksum}
-use Rattle.st_base.specs.declared.limits.TheConstants.{TABLE_BYTES}
+use Rattle.st_base.specs.declared.limits.TheConstants.{OWN_TABLE_BYTES, TABLE_BYTES}
 use Rattle.st_code.specs.Fixed.{fixed32, fixed64}
 use Rattle.st_table.specs.Handle.{footer_handle, handle_bytes}
 use Rattle.st_table.specs.Steps.{◌>>=◌}
@@ -17,7 +17,6 @@ use Rattle.st_table.specs.declared.footer.TheConstants.{CHECKSUM_TYPE, FOOTER_BY
 use Rattle.st_table.specs.declared.handle.Handle.{Handle}
 use Rattle.st_table.specs.declared.kind.TableKind.{TableKind}
 use Rattle.st_table.specs.declared.kind.TableKind.TheVariants.{External, Own}
-use Rattle.st_table.specs.declared.kind.TheConstants.{OWN_TABLE_BYTES}
 
 -- the greatest size of a file of this kind, in bytes
 abbrev pub greatest_size : TableKind → ℕ

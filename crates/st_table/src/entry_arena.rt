@@ -5,13 +5,14 @@
 //! ```
 //!
 //! Each entry has a slot that says where its key begins and ends and where its value ends. A tombstone has no value.
-ghost use Rattle.std.specs.Prelude.{◌≡◌, ◌<◌, [], ◌∷◌, ◌++◌, length, take, OnOk, IfOk, Some, slice_get, map, option_map};
+ghost use Rattle.std.specs.Prelude.{◌≡◌, ◌+◌, ◌<◌, [], ◌∷◌, ◌++◌, length, take, OnErr, OnOk, IfOk, Some, slice_get, option_map};
+ghost use Rattle.st_base.specs.Entries.{mark_length};
+ghost use Rattle.st_base.specs.Range.{entries_charge};
 ghost use Rattle.st_base.specs.Rows.{entry_of, mark_of};
-ghost use Rattle.st_table.specs.EntryArena.{EndsValue, Lies, entry_in, mark_in, slot_numbered};
+ghost use Rattle.st_table.specs.EntryArena.{AddsEntry, EndsValue, Lies, entry_in, mark_in};
 ghost use Rattle.st_table.specs.Entries.{last_entry};
-ghost use Rattle.st_table.specs.Table.{acting};
 
-use st_base::{Bytes, EntryRef, List, MarkRef};
+use st_base::{Bytes, ENTRY_CHARGE, EntryRef, List, MarkRef};
 use std::alloc::{AllocError, Global};
 use std::marker::Model;
 
@@ -35,16 +36,15 @@ pub(crate) struct EntryArena {
 }
 
 impl Model for EntryArena {
-    ghost use Rattle.std.specs.Prelude.{List, length, map};
-    ghost use Rattle.std.specs.List.{AllByRecursion};
+    ghost use Rattle.std.specs.Prelude.{List, map};
     ghost use Rattle.st_base.specs.declared.entry.Entry.{Entry};
-    ghost use Rattle.st_table.specs.EntryArena.{Lies, entry_in};
+    ghost use Rattle.st_table.specs.EntryArena.{Fill, entry_in};
 
     ghost Value = { List Entry };
 
     ghost view = { λ arena. map (entry_in arena.bytes) arena.slots };
 
-    ghost invariant = { λ arena. AllByRecursion (Lies (length arena.bytes)) arena.slots };
+    ghost invariant = { λ arena. Fill arena.bytes arena.slots };
 }
 
 // Appends the value of a mark, and answers where it ends, if there is one.
@@ -52,6 +52,7 @@ fn append_mark(bytes: &mut Bytes, mark: MarkRef<'_>) -> Result<Option<usize>, Al
     ensures kept { take (length bytes.old) bytes.new ≡ bytes.old }
     ensures mark { IfOk result (λ end. mark_in bytes.new (length bytes.old) end ≡ mark_of mark.entry) }
     ensures lies { IfOk result (λ end. EndsValue (length bytes.new) (length bytes.old) end) }
+    ensures longer { OnOk result (length bytes.new ≡ length bytes.old + mark_length (mark_of mark.entry)) }
 {
     match mark {
         MarkRef::Put(value) => {
@@ -67,6 +68,8 @@ fn append_entry(bytes: &mut Bytes, entry: EntryRef<'_>) -> Result<EntrySlot, All
     ensures kept { take (length bytes.old) bytes.new ≡ bytes.old }
     ensures entry { IfOk result (λ slot. entry_in bytes.new slot ≡ entry_of entry.entry) }
     ensures lies { IfOk result (λ slot. Lies (length bytes.new) slot) }
+    ensures longer { OnOk result
+        (length bytes.new ≡ length bytes.old + length entry.entry.key.now + mark_length (mark_of entry.entry.mark)) }
 {
     let start = bytes.len();
     bytes.extend_from_slice(entry.key)?;
@@ -78,6 +81,20 @@ fn append_entry(bytes: &mut Bytes, entry: EntryRef<'_>) -> Result<EntrySlot, All
         value_end,
         number: entry.number,
     })
+}
+
+// Appends the key and the value of an entry, and its slot; where memory runs out, some of the entry may stand there.
+fn append_slotted(
+    bytes: &mut Bytes,
+    slots: &mut List<EntrySlot>,
+    entry: EntryRef<'_>,
+) -> Result<(), AllocError>
+    ensures kept { take (length bytes.old) bytes.new ≡ bytes.old }
+    ensures ok { OnOk result (AddsEntry bytes.old bytes.new slots.old slots.new (entry_of entry.entry)) }
+    ensures err { OnErr result (slots.new ≡ slots.old) }
+{
+    let slot = append_entry(bytes, entry)?;
+    slots.push(slot)
 }
 
 // The entry of a slot.
@@ -94,17 +111,6 @@ fn entry_ref(bytes: &[u8], slot: EntrySlot) -> EntryRef<'_>
         number: slot.number,
         mark,
     }
-}
-
-// The slots under a number.
-fn numbered(slots: List<EntrySlot>, number: u64) -> List<EntrySlot>
-    ensures { result ≡ map (slot_numbered number) slots }
-{
-    let mut items = slots.into_vec();
-    for at in 0..items.len() {
-        items[at].number = number;
-    }
-    List::from(items)
 }
 
 impl EntryArena {
@@ -125,50 +131,46 @@ impl EntryArena {
     }
 
     /// The entry at the index.
-    pub(crate) fn entry(&self, slot: usize) -> EntryRef<'_>
-        requires { slot < length self.now }
-        ensures { slice_get self.now slot ≡ Some (entry_of result) }
+    pub(crate) fn entry(&self, index: usize) -> EntryRef<'_>
+        requires { index < length self.now }
+        ensures { slice_get self.now index ≡ Some (entry_of result) }
     {
-        entry_ref(self.bytes.as_slice(), self.slots.as_slice()[slot])
-    }
-
-    /// The entry at the index, if there is one.
-    pub(crate) fn get(&self, slot: usize) -> Option<EntryRef<'_>>
-        ensures { option_map entry_of result ≡ slice_get self.now slot }
-    {
-        if slot < self.len() {
-            Some(self.entry(slot))
-        } else {
-            None
-        }
+        entry_ref(self.bytes.as_slice(), self.slots.as_slice()[index])
     }
 
     /// The last entry, if there is one.
     pub(crate) fn last(&self) -> Option<EntryRef<'_>>
         ensures { option_map entry_of result ≡ last_entry self.now }
     {
-        self.get(self.len().saturating_sub(1))
+        let count = self.len();
+        if count == 0 {
+            None
+        } else {
+            Some(self.entry(count - 1))
+        }
     }
 
-    /// Appends the entry.
+    /// Appends the entry; an error leaves the entries as they were.
     pub(crate) fn push(&mut self, entry: EntryRef<'_>) -> Result<(), AllocError>
-        ensures { OnOk result (self.new ≡ self.old ++ entry_of entry.entry ∷ []) }
+        ensures ok { OnOk result (self.new ≡ self.old ++ entry_of entry.entry ∷ []) }
+        ensures err { OnErr result (self.new ≡ self.old) }
     {
-        let slot = append_entry(&mut self.bytes, entry)?;
-        self.slots.push(slot)?;
-        Ok(())
+        let before = self.bytes.len();
+        match append_slotted(&mut self.bytes, &mut self.slots, entry) {
+            Ok(()) => Ok(()),
+            Err(error) => {
+                self.bytes.truncate(before);
+                Err(error)
+            }
+        }
     }
 
-    /// The entries under the number of their table, or under their own where it is 0.
-    pub(crate) fn acting(self, number: u64) -> EntryArena
-        ensures { result ≡ acting number self }
+    /// The sum of the entries' charges, as far as 64 bits hold it. No entry is looked at.
+    pub(crate) fn charge(&self) -> u64
+        ensures { result ≡ entries_charge self.now }
     {
-        if number == 0 {
-            return self;
-        }
-        EntryArena {
-            bytes: self.bytes,
-            slots: numbered(self.slots, number),
-        }
+        (self.slots.len() as u64)
+            .saturating_mul(ENTRY_CHARGE)
+            .saturating_add(self.bytes.len() as u64)
     }
 }

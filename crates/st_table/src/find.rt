@@ -2,7 +2,7 @@ ghost use Rattle.std.specs.Prelude.{◌≡◌, Some, IsTrue, option_map};
 ghost use Rattle.st_base.specs.Order.{in_order, is_before};
 ghost use Rattle.st_base.specs.Rows.{entry_of, lower_index, mark_of, newest, newest_there};
 
-use crate::entry_arena::EntryArena;
+use crate::shared_entries::SharedEntries;
 use st_base::{EntryRef, MarkRef, lower_index_parts_entries};
 use std::cmp::Ordering;
 
@@ -19,7 +19,7 @@ pub(crate) fn is_before(entry: EntryRef<'_>, key: &[u8], number: u64) -> bool
 
 /// The index of the first entry at or after the key and the number, or the number of entries. It halves the entries that
 /// are left at each step.
-pub(crate) fn lower_in(entries: &EntryArena, key: &[u8], number: u64) -> usize
+pub(crate) fn lower_in(entries: &SharedEntries, key: &[u8], number: u64) -> usize
     requires { IsTrue (in_order entries.now) }
     ensures { result ≡ lower_index entries.now key.now number }
 {
@@ -50,7 +50,7 @@ fn newest_there<'a>(key: &[u8], entry: Option<EntryRef<'a>>) -> Option<(u64, Mar
 
 /// The number and the mark of the first entry of the key at or below the number: none exactly where there is none.
 pub(crate) fn newest_in<'a>(
-    entries: &'a EntryArena,
+    entries: &'a SharedEntries,
     key: &[u8],
     number: u64,
 ) -> Option<(u64, MarkRef<'a>)>

@@ -19,7 +19,7 @@ use st_code::{fixed32_in, fixed64_in, push_fixed32, push_fixed64};
 use std::alloc::{AllocError, Global};
 
 /// The length of a footer, in bytes.
-pub const FOOTER_BYTES: usize = 53;
+pub(crate) const FOOTER_BYTES: usize = 53;
 
 /// How many bytes of a footer stand before the version.
 const PADDED_BYTES: usize = 41;

@@ -1,10 +1,7 @@
 ghost use Rattle.std.specs.Prelude.{◌≡◌};
 ghost use Rattle.st_table.specs.Footer.{greatest_size};
 
-use st_base::TABLE_BYTES;
-
-/// The greatest length of a table of a store, in bytes.
-pub const OWN_TABLE_BYTES: usize = 4_294_967_295;
+use st_base::{OWN_TABLE_BYTES, TABLE_BYTES};
 
 /// Which rules a table obeys.
 #[derive(Clone, Copy, PartialEq)]

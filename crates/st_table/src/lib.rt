@@ -12,8 +12,9 @@
 //!
 //! A layer above may rely on this: what `Table::open` accepts is a table of its kind, and the opened table is the list of
 //! its entries; what it refuses has exactly the first fault in reading order. Bytes are read once, from the footer to the
-//! last data block, and nothing is reserved by a count or a length that they state. Handles, stored blocks and the footer
-//! are written here too, beside their readers, for the crate that writes tables.
+//! last data block, and nothing is reserved by a count or a length that they state. Under another number a table shares
+//! its entries, and none is copied. Handles, stored blocks and the footer are written here too, beside their readers, for
+//! the crate that writes tables.
 #![tactic(auto)]
 
 mod data_blocks;
@@ -27,14 +28,15 @@ mod kind;
 mod laws;
 mod metaindex;
 mod properties;
+mod shared_entries;
 mod stored;
 mod table;
 
 pub use fault::OpenTableFault;
-pub use footer::{FOOTER_BYTES, put_footer};
+pub use footer::put_footer;
 pub use handle::{Handle, handle_bytes};
-pub use kind::{OWN_TABLE_BYTES, TableKind, greatest_size};
-pub use laws::table_or_first_fault;
+pub use kind::{TableKind, greatest_size};
+pub use laws::{external_is_own, own_numbers_stay, table_or_first_fault};
 pub use metaindex::PROPERTIES_NAME;
 pub use properties::{
     BYTEWISE_COMPARATOR, COMPARATOR_NAME, ENTRIES_NAME, EXTERNAL_VERSION, SEQUENCE_NAME,

@@ -1,24 +1,44 @@
 ghost use Rattle.std.specs.Prelude.{◌≡◌, ◌⊎◌, ◌<◌, List, Ok, IfOk, IfErr, IsTrue, option_map};
+ghost use Rattle.st_base.specs.Range.{keys_rise};
 ghost use Rattle.st_base.specs.Rows.{AreRows, mark_of, newest};
 ghost use Rattle.st_base.specs.declared.entry.Entry.{Entry};
+ghost use Rattle.st_table.specs.Handle.{LiesInFile};
 ghost use Rattle.st_table.specs.Steps.{Fails};
 ghost use Rattle.st_table.specs.IsTable.{IsTable};
-ghost use Rattle.st_table.specs.Table.{IsFirstFault, acting, keys_rise, table_of};
+ghost use Rattle.st_table.specs.Table.{IsFirstFault, acting, properties_of, table_of};
 
 use crate::data_blocks::data_of;
 use crate::entry_arena::EntryArena;
 use crate::fault::OpenTableFault;
 use crate::find::{lower_in, newest_in};
 use crate::footer::footer_of;
+use crate::handle::Handle;
 use crate::kind::TableKind;
 use crate::metaindex::properties_handle;
 use crate::properties::properties_fault;
+use crate::shared_entries::SharedEntries;
 use crate::stored::block_at;
-use st_base::{Bytes, EntryRef, MarkRef, Rows, Scratch};
-use st_block::BlockKind;
-use std::alloc::Global;
+use st_base::{Bytes, EntryRef, MarkRef, Renumber, Rows, Scratch};
+use st_block::{Block, BlockKind};
+use std::alloc::{AllocError, Global};
 use std::marker::Model;
 use std::sync::Arc;
+
+// The properties block, by the metaindex block of this handle, or the first fault of these two.
+#[tactic(auto, unfolding(crate::specs::Table::properties_of))]
+fn properties_of(
+    bytes: &Arc<Bytes>,
+    at: Handle,
+    scratch: &mut Scratch,
+) -> Result<Block, OpenTableFault>
+    requires { LiesInFile bytes.now.value at }
+    ensures ok { IfOk result (λ block. properties_of bytes.now.value at ≡ Ok block) }
+    ensures err { IfErr result (λ fault. Fails fault (properties_of bytes.now.value at)) }
+{
+    let metaindex = block_at(bytes, at, BlockKind::Plain, scratch)?;
+    let handle = properties_handle(bytes.as_slice(), at.offset, &metaindex, scratch)?;
+    block_at(bytes, handle, BlockKind::Plain, scratch)
+}
 
 // The entries of a table of this kind, or its first fault.
 #[tactic(auto, unfolding(crate::specs::Table::table_of))]
@@ -31,26 +51,21 @@ fn table_of(
     ensures rows { IfOk result AreRows }
     ensures err { IfErr result (λ fault. Fails fault (table_of kind bytes.now.value)) }
 {
-    let text = bytes.as_slice();
-    let footer = footer_of(text, kind)?;
+    let footer = footer_of(bytes.as_slice(), kind)?;
     let mut scratch = Scratch::new(alloc)?;
-    let metaindex = block_at(bytes, footer.metaindex, BlockKind::Plain, &mut scratch)?;
-    let handle = properties_handle(text, footer.metaindex.offset, &metaindex, &mut scratch)?;
-    let properties = block_at(bytes, handle, BlockKind::Plain, &mut scratch)?;
-    match properties_fault(kind, &properties, &mut scratch) {
-        Some(fault) => Err(fault.into()),
-        None => {
-            let index = block_at(bytes, footer.index, BlockKind::Index, &mut scratch)?;
-            data_of(alloc, bytes, kind, footer.index.offset, &index)
-        }
+    let properties = properties_of(bytes, footer.metaindex, &mut scratch)?;
+    if let Some(fault) = properties_fault(kind, &properties, &mut scratch) {
+        return Err(fault.into());
     }
+    let index = block_at(bytes, footer.index, BlockKind::Index, &mut scratch)?;
+    data_of(alloc, bytes, kind, footer.index.offset, &index)
 }
 
 /// An opened table, seen as the list of its entries. It keeps them decoded, so a look-up reads no block; an entry takes 40
-/// bytes beside its key and its value.
+/// bytes beside its key and its value. Tables under other numbers share them (`with_number`).
 #[derive(Drop)]
 pub struct Table {
-    entries: EntryArena,
+    entries: SharedEntries,
 }
 
 impl Model for Table {
@@ -83,10 +98,9 @@ impl Table {
             (λ table. ((entries : List Entry) × IsTable bytes.value kind entries × (table ≡ acting number entries))) }
         ensures bad { IfErr result (IsFirstFault bytes.value kind) }
     {
-        let entries = table_of(alloc, &bytes, kind)?;
-        Ok(Table {
-            entries: entries.acting(number),
-        })
+        let arena = table_of(alloc, &bytes, kind)?;
+        let entries = SharedEntries::new(alloc, arena, number)?;
+        Ok(Table { entries })
     }
 
     /// The number and the mark of the first entry of the key at or below the number: None exactly where there is none. It
@@ -110,8 +124,8 @@ impl Rows for Table {
         self.entries.len()
     }
 
-    fn at<'a>(&'a self, place: usize, _scratch: &'a mut Scratch) -> EntryRef<'a> {
-        self.entries.entry(place)
+    fn at<'a>(&'a self, index: usize, _scratch: &'a mut Scratch) -> EntryRef<'a> {
+        self.entries.entry(index)
     }
 
     fn lower(&self, key: &[u8], number: u64, _scratch: &mut Scratch) -> usize {
@@ -135,5 +149,17 @@ impl Rows for Table {
         _scratch: &mut Scratch,
     ) -> Option<(u64, MarkRef<'a>)> {
         newest_in(&self.entries, key, number)
+    }
+}
+
+/// The table under the number shares its entries with this one, and copies none; their charge is told without a look at them.
+impl Renumber for Table {
+    fn with_number(&self, _alloc: Global, number: u64) -> Result<Table, AllocError> {
+        let entries = self.entries.with_number(number)?;
+        Ok(Table { entries })
+    }
+
+    fn charge(&self) -> u64 {
+        self.entries.charge()
     }
 }
