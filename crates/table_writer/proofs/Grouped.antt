@@ -8,7 +8,7 @@ use Rattle.std.proofs.lemmas.Bool.{and_parts, cases_lt, false≢true, le-leb, le
 use Rattle.std.proofs.lemmas.Cmp.{tied_itself}
 use Rattle.std.proofs.lemmas.List.{append-nil, drop_at, length-append, take_at}
 use Rattle.std.proofs.lemmas.Nat.{from_le_bytes-to_le_bytes_8}
-use Rattle.st_base.proofs.Ordered.{places_total}
+use Rattle.st_base.proofs.Ordered.{positions_total}
 use Rattle.st_base.specs.Bytes.{bytes_cmp}
 use Rattle.st_base.specs.Order.{comes_before, position_cmp, rises_behind}
 use Rattle.st_base.specs.Rows.{FitsMark}
@@ -85,7 +85,7 @@ value_short Gone h = omega arith
 
 pub pair_fits : (kind : TableKind) (e : Entry) → MayPut kind e → PairFits kind (pair_of e)
 pair_fits kind e h = record {
-  block = record { key = omega (arith, key_length e, h.limits.0); value = value_short e.mark h.limits.1; long = le-leb _ _ (omega (arith, key_length e)) };
+  block = record { key = omega (arith, key_length e, h.limits.key); value = value_short e.mark h.limits.mark; long = le-leb _ _ (omega (arith, key_length e)) };
   kind_fits = ap (λ (n : ℕ). is_kind n (value_under e.mark)) (kind_is e h.number) ∙ kind_fits e.mark;
   number_fits = ap (may_have kind) (number_is e h.number) ∙ h.allowed;
 }
@@ -132,14 +132,14 @@ internal_less p q h = by_key (bytes_cmp (user_key p.0) (user_key q.0)) h
 
 -- a key is at or after itself
 pub internal_same : (key : List ℕ) → is_le (internal_cmp key key) ≡ true
-internal_same key = ap is_le (tied_itself places_total (user_key key, packed key))
+internal_same key = ap is_le (tied_itself positions_total (user_key key, packed key))
 
 chain : (p q r : Pair) → before p q ≡ true → before q r ≡ true → before p r ≡ true
 chain p q r h g =
     let a = entry_of_pair p in
     let b = entry_of_pair q in
     let c = entry_of_pair r in
-    ap is_lt (places_total.trans (a.key, a.number) (b.key, b.number) (c.key, c.number) (is_less (position_cmp a.key a.number b.key b.number) h) (is_less (position_cmp b.key b.number c.key c.number) g))
+    ap is_lt (positions_total.trans (a.key, a.number) (b.key, b.number) (c.key, c.number) (is_less (position_cmp a.key a.number b.key b.number) h) (is_less (position_cmp b.key b.number c.key c.number) g))
 
 -- ---- the last of some pairs
 
