@@ -131,7 +131,7 @@ may_more entries key mark may rises short fits =
     let e = entry_with key mark in
     record {
       ordered = order_more entries e may.ordered (above_behind (last_entry entries) key rises);
-      each = each_more entries e may.each (record { limits = (short, fits); number = lit< tt; allowed = refl });
+      each = each_more entries e may.each (record { limits = record { key = short; mark = fits; number = lit< tt }; number = lit< tt; allowed = refl });
     }
 
 -- a writer has these entries and one more
