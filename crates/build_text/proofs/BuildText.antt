@@ -203,12 +203,15 @@ record AreBuilt (entries : List Entry) : Type 0 where
   pub within : Each Fits entries
   pub each : Each IsBuildEntry entries
 
--- a key and a mark are within their limits, as the test and as the facts
-pub within-fits : (key : List ℕ) (mark : Mark) → (nat_le (length key) 65535 && nat_le (mark_length mark) 1048576) ≡ true → (length key ≤ 65535) × FitsMark mark
-within-fits key (Put value) e =
-    let each = and_parts (nat_le (length key) 65535) (nat_le (length value) 1048576) e in
-    (leb-true (length key) 65535 each.0, leb-true (length value) 1048576 each.1)
-within-fits key Gone e = (leb-true (length key) 65535 (and_parts (nat_le (length key) 65535) (nat_le 0 1048576) e).0, tt)
+-- an entry is within the limits, as the test and as the facts
+within-fits : (entry : Entry) → entry.number ≡ 0 → is_within entry ≡ true → Fits entry
+within-fits entry zero e =
+    let each = and_parts (nat_le (length entry.key) 65535) (nat_le (mark_length entry.mark) 1048576) e in
+    record { key = leb-true (length entry.key) 65535 each.0; mark = mark-fits entry.mark (leb-true (mark_length entry.mark) 1048576 each.1); number = omega (arith, zero) }
+  where
+    mark-fits : (mark : Mark) → mark_length mark ≤ 1048576 → FitsMark mark
+    mark-fits (Put value) short = short
+    mark-fits Gone short = tt
 
 fits-within : (key : List ℕ) (mark : Mark) → length key ≤ 65535 → FitsMark mark → (nat_le (length key) 65535 && nat_le (mark_length mark) 1048576) ≡ true
 fits-within key (Put value) small fit =
@@ -256,10 +259,11 @@ order-added (first ∷ entries) entry e f =
 
 built-added : (entries more : List Entry) (line : List ℕ) → AreBuilt entries → Added entries line more → AreBuilt more
 built-added entries more line built (entry, grown, next) =
+    let is = (line-is line entry next.read).1 in
     subst AreBuilt (sym grown) (record {
       ordered = order-added entries entry built.ordered next.above;
-      within = each-push Fits entries entry built.within (within-fits entry.key entry.mark next.within);
-      each = each-push IsBuildEntry entries entry built.each (line-is line entry next.read).1;
+      within = each-push Fits entries entry built.within (within-fits entry is.number next.within);
+      each = each-push IsBuildEntry entries entry built.each is;
     })
 
 module _ (fits : List Entry → Bool) where
@@ -331,7 +335,7 @@ module _ (fits : List Entry → Bool) where
   accepted-behind all before [] last e fit last_is zero rising within each = tt
   accepted-behind all before (entry ∷ entries) last e fit last_is zero rising within each =
       let rise = and_parts (comes_before last entry) (rises_behind comes_before entry entries) rising in (
-        fits-within entry.key entry.mark within.0.0 within.0.1,
+        fits-within entry.key entry.mark within.0.key within.0.mark,
         ap (λ k. is_above k entry.key) last_is ∙ below-by (bytes_cmp last.key entry.key) entry.number last.number each.0.number zero rise.0,
         front-fits all before entries entry e fit,
         each.0,
@@ -341,7 +345,7 @@ module _ (fits : List Entry → Bool) where
   accepted : (entries : List Entry) → ((count : ℕ) → IsTrue (fits (take count entries))) → AreRows entries → Each IsBuildEntry entries → Accepted [] entries
   accepted [] fit rows each = tt
   accepted (entry ∷ entries) fit rows each = (
-    fits-within entry.key entry.mark rows.within.0.0 rows.within.0.1,
+    fits-within entry.key entry.mark rows.within.0.key rows.within.0.mark,
     refl,
     front-fits (entry ∷ entries) [] entries entry refl fit,
     each.0,

@@ -8,6 +8,7 @@ use Rattle.st_base.specs.Rows.{last_key, mark_of}
 use Rattle.st_base.specs.declared.entry.Entry.{Entry}
 use Rattle.st_base.specs.declared.entry.Mark.{Mark}
 use Rattle.st_base.specs.declared.entry.Mark.TheVariants.{Put, Gone}
+use Rattle.st_base.specs.declared.limits.TheConstants.{KEY_BYTES, VALUE_BYTES}
 use Rattle.st_base.specs.Word.{word}
 use Rattle.build_text.specs.declared.fault.BuildFault.{BuildFault}
 use Rattle.build_text.specs.declared.fault.BuildFault.TheVariants.{Line, TooLarge, NotRising, NoEntry, OutOfMemory}
@@ -79,7 +80,7 @@ entry_of_line line = entry_of_words (words line)
 
 -- whether the key and the value are within their limits
 abbrev pub is_within : Entry → Bool
-is_within entry = nat_le (length entry.key) 65535 && nat_le (mark_length entry.mark) 1048576
+is_within entry = nat_le (length entry.key) KEY_BYTES && nat_le (mark_length entry.mark) VALUE_BYTES
 
 -- whether the key is greater than this one, if there is one
 abbrev pub is_above : Option (List ℕ) → List ℕ → Bool

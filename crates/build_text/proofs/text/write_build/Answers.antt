@@ -1,7 +1,7 @@
-use Rattle.std.proofs.Common.{◌≡◌, ◌+◌, ◌∙◌, arith, length, refl, rules, sym}
+use Rattle.std.proofs.Common.{◌≡◌, ◌+◌, ◌∙◌, arith, length, rules, sym}
 use Rattle.build_text.specs.Build.{entries_from}
 use Rattle.build_text.specs.Words.{text_parts}
-use Rattle.build_text.proofs.Building.{build_cut, build_end, build_line_read, build_stops}
+use Rattle.build_text.proofs.Building.{build_end, build_line_read, build_stops}
 use Rattle.build_text.proofs.text.write_build.Goals as goal
 
 pub loop-rest-preserved : goal.loop-rest-preserved
