@@ -1,5 +1,5 @@
 -- A script, of which some lines are read.
-use Rattle.std.proofs.Common.{◌≡◌, ℕ, Bool, true, false, cond, ◌+◌, List, [], ◌∷◌, ◌++◌, length, refl, sym, ap, ◌∙◌, subst, arith, append_assoc, length-append}
+use Rattle.std.proofs.Common.{◌≡◌, ℕ, Bool, true, false, cond, ◌+◌, List, [], ◌∷◌, ◌++◌, length, refl, sym, ap, ◌∙◌, subst, arith, append_assoc, append-nil, length-append}
 use Rattle.std.specs.Prelude.{Option, Some, None, Result, Ok, Err, filter}
 use Rattle.std.specs.List.{enumerate_from}
 use Rattle.st_model.specs.declared.command.Command.{Command}
@@ -77,3 +77,8 @@ whole_fault commands number fault line lines e =
     let others = those_of (number + 1) lines in
     ap (with_front commands) (chosen (length commands) number line others (is_command_line line))
     ∙ fault-by commands number fault others (is_command_line line) (command_behind (length commands) line) e
+
+-- all lines are read
+pub whole_end : (text : List ℕ) (commands : List Numbered) (number : ℕ) (rest : List ℕ) → length rest ≡ 0 → whole commands number (lines rest) ≡ script_of text → script_of text ≡ Ok commands
+whole_end text commands number [] none e = sym e ∙ ap Ok (append-nil commands)
+whole_end text commands number (byte ∷ rest) none e = absurd (omega (arith, none))

@@ -1,5 +1,9 @@
 pub mod FirstLine
+pub mod Steps
 pub mod Behind
+pub mod EachCommand
 pub mod Printing
-pub mod FoundValue
+pub mod Readers
 pub mod ReplyWords
+pub mod ReadBack
+pub mod InForm

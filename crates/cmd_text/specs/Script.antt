@@ -1,8 +1,9 @@
 -- The commands of a client file.
-use Rattle.std.specs.Prelude.{ℕ, Bool, false, not, ◌==◌, ◌+◌, nat_lt, length, List, [], ◌∷◌, ◌++◌, filter, if◌then◌else◌}
+use Rattle.std.specs.Prelude.{ℕ, Bool, false, not, ◌≡◌, ⊤, ◌==◌, ◌+◌, nat_lt, length, List, [], ◌∷◌, ◌++◌, filter, if◌then◌else◌}
 use Rattle.std.specs.Prelude.{Option, Some, None, Result, Ok, Err}
 use Rattle.std.specs.List.{enumerate_from}
 use Rattle.st_model.specs.declared.command.Command.{Command}
+use Rattle.st_model.specs.declared.command.Command.TheVariants.{Write, Get}
 use Rattle.cmd_text.specs.declared.script.Numbered.{Numbered}
 use Rattle.cmd_text.specs.Lines.{lines}
 use Rattle.cmd_text.specs.Commands.{command_of}
@@ -34,6 +35,12 @@ commands_of before (line ∷ lines) = in_front line.0 (command_behind before lin
 -- the commands of a client file; or the number of its first line that should be a command and isn't
 unfoldable pub script_of : List ℕ → Result (List Numbered) ℕ
 script_of text = commands_of 0 (command_lines text)
+
+-- the commands that a client file can have so far: a write of one operation, or a read of a key now
+abbrev pub IsOfOneKey : Command → Type 0
+IsOfOneKey (Write batch) = length batch.ops ≡ 1
+IsOfOneKey (Get family key) = ⊤
+IsOfOneKey other = ⊥
 
 -- ---- one line more
 

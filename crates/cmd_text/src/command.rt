@@ -1,35 +1,13 @@
 ghost use Rattle.std.specs.Prelude.{◌≡◌, IfOk};
-ghost use Rattle.cmd_text.specs.Commands.{Gives, command_named, command_of, del_of, family_and_key, family_of_word, get_of, key_of_word, put_of};
-ghost use Rattle.cmd_text.specs.Commands.{single, value_of_word};
+ghost use Rattle.cmd_text.specs.Commands.{Gives, command_named, command_of, del_of, family_and_key, get_of, put_of, single};
 
 use crate::fault::ParseFault;
 use crate::lines::is;
-use build_text::{Words, read_word};
-use st_base::{Bytes, Family, KEY_BYTES, Key, List, VALUE_BYTES, Value};
+use crate::parts::{family_of_word, key_of_word, value_of_word};
+use build_text::Words;
+use st_base::{Family, Key, List};
 use st_model::{Batch, Command, Op};
 use std::alloc::{AllocError, Global};
-
-fn family_of_word(alloc: Global, word: &[u8]) -> Result<Family, ParseFault>
-    ensures { Gives result (family_of_word word.now) }
-{
-    Ok(Family::new(alloc, word)?)
-}
-
-fn key_of_word(alloc: Global, word: &[u8]) -> Result<Key, ParseFault>
-    ensures { Gives result (key_of_word word.now) }
-{
-    let mut scratch = Bytes::new(alloc);
-    let bytes = read_word(word, KEY_BYTES, &mut scratch)?;
-    Ok(Key::new(alloc, bytes)?)
-}
-
-fn value_of_word(alloc: Global, word: &[u8]) -> Result<Value, ParseFault>
-    ensures { Gives result (value_of_word word.now) }
-{
-    let mut scratch = Bytes::new(alloc);
-    let bytes = read_word(word, VALUE_BYTES, &mut scratch)?;
-    Ok(Value::new(alloc, bytes)?)
-}
 
 // `put F K V`
 #[tactic(auto, unfolding(crate::specs::Commands::put_of))]

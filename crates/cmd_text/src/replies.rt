@@ -1,107 +1,99 @@
-ghost use Rattle.std.specs.Prelude.{◌≡◌, ◌<◌, ◌≤◌, ◌^◌, ◌∷◌, [], ◌++◌, ℕ, List, length, IfOk, IfSome, IsSomeAnd, IsErrOf, Some};
-ghost use Rattle.std.specs.Fmt.{decimal};
+ghost use Rattle.std.specs.Prelude.{◌≡◌, ◌<◌, ◌^◌, ◌∷◌, [], ◌++◌, ℕ, List, IfOk, IsErrOf, Some};
 ghost use Rattle.std.specs.Option.{option_copied};
-ghost use Rattle.st_base.specs.Word.{word as spelling_of};
-ghost use Rattle.st_model.specs.Line.{line_of, reply_words, refusal_words};
-ghost use Rattle.st_model.specs.declared.refusal.Refusal.{Refusal};
+ghost use Rattle.st_model.specs.Line.{line_of};
 ghost use Rattle.st_model.specs.declared.reply.Reply.{Reply};
-ghost use Rattle.build_text.specs.Words.{AreBytes};
-ghost use Rattle.cmd_text.specs.Replies.{GivesBack, IsPrinted, IsPrintedRefusal};
+ghost use Rattle.cmd_text.specs.Commands.{Gives};
+ghost use Rattle.cmd_text.specs.Readings.{found_reply, long_reply, place_and_reply_of, plain_reply, reply_of};
+ghost use Rattle.cmd_text.specs.Replies.{GivesBack, IsPrinted};
 
 use crate::fault::{LineFault, ParseFault};
 use crate::lines::is;
+use crate::parts::{next_u64, value_of_word};
 use crate::print::print_reply;
-use build_text::{Words, read_word};
-use st_base::{Bytes, Family, VALUE_BYTES, Value};
-use st_model::{Refusal, Reply};
+use crate::refusals::read_refusal;
+use crate::spelled::read_each;
+use build_text::Words;
+use st_model::Reply;
 use std::alloc::Global;
-use std::str;
 
-// The number of which the word is the digits. Other words may be read too, since the line is printed again.
-fn read_number(word: &[u8]) -> Option<u64>
-    ensures { (number : ℕ) → number < 2 ^ 64 → word.now ≡ decimal number → result ≡ Some number }
+// The reply of that name, where that is its only word.
+#[tactic(auto, unfolding(crate::specs::Readings::plain_reply))]
+fn plain_reply(name: &[u8]) -> Option<Reply>
+    ensures { result ≡ plain_reply name.now }
 {
-    match str::from_utf8(word) {
-        Ok(text) => text.parse::<u64>().ok(),
-        Err(_) => None,
+    if is(name, b"none") {
+        return Some(Reply::Nothing);
     }
-}
-
-// The number that is the only word.
-fn read_written(mut words: Words<'_>) -> Result<Reply, ParseFault>
-    ensures { (number : ℕ) → number < 2 ^ 64 → words.entry ≡ decimal number ∷ []
-        → GivesBack result (Reply.Written number) }
-{
-    let word = words.next().ok_or(ParseFault::Mismatch)?;
-    let number = read_number(word).ok_or(ParseFault::Mismatch)?;
-    Ok(Reply::Written(number))
-}
-
-// The value that the word stands for.
-fn found_value(alloc: Global, word: &[u8]) -> Result<Value, ParseFault>
-    ensures { (value : List ℕ) → AreBytes value → length value ≤ 1048576 → word.now ≡ spelling_of value
-        → GivesBack result value }
-{
-    let mut scratch = Bytes::new(alloc);
-    match read_word(word, VALUE_BYTES, &mut scratch) {
-        Ok(bytes) => Ok(Value::new(alloc, bytes)?),
-        Err(fault) => Err(ParseFault::from(fault)),
+    if is(name, b"released") {
+        return Some(Reply::Released);
     }
+    if is(name, b"made") {
+        return Some(Reply::Made);
+    }
+    if is(name, b"dropped") {
+        return Some(Reply::Dropped);
+    }
+    if is(name, b"flushed") {
+        return Some(Reply::Flushed);
+    }
+    if is(name, b"compacted") {
+        return Some(Reply::Compacted);
+    }
+    if is(name, b"await") {
+        return Some(Reply::Await);
+    }
+    if is(name, b"long") {
+        return Some(Reply::Long);
+    }
+    None
 }
 
-// The value of which the only word is the spelling.
+#[tactic(auto, unfolding(crate::specs::Readings::found_reply))]
 fn read_found(alloc: Global, mut words: Words<'_>) -> Result<Reply, ParseFault>
-    ensures { (value : List ℕ) → AreBytes value → length value ≤ 1048576 → words.entry ≡ spelling_of value ∷ []
-        → GivesBack result (Reply.Found value) }
+    ensures { Gives result (found_reply words.entry) }
 {
     let word = words.next().ok_or(ParseFault::Mismatch)?;
-    Ok(Reply::Found(found_value(alloc, word)?))
+    Ok(Reply::Found(value_of_word(alloc, word)?))
 }
 
-// The refusal of which these are the words.
-fn read_refusal(alloc: Global, mut words: Words<'_>) -> Result<Refusal, ParseFault>
-    ensures { (refusal : Refusal) → IsPrintedRefusal refusal → words.entry ≡ refusal_words refusal
-        → GivesBack result refusal }
+// The reply of that name with the words that follow it.
+#[tactic(auto, unfolding(crate::specs::Readings::long_reply))]
+fn read_long_reply(alloc: Global, name: &[u8], mut words: Words<'_>) -> Result<Reply, ParseFault>
+    ensures { Gives result (long_reply name.now words.entry) }
 {
-    let number = words.next().ok_or(ParseFault::Mismatch)?;
-    let _name = words.next().ok_or(ParseFault::Mismatch)?;
-    if is(number, b"10") {
-        return Ok(Refusal::Stopped);
+    if is(name, b"written") {
+        return Ok(Reply::Written(next_u64(&mut words)?));
     }
-    if is(number, b"11") {
-        let name = words.next().ok_or(ParseFault::Mismatch)?;
-        return Ok(Refusal::UnknownFamily(Family::new(alloc, name)?));
+    if is(name, b"value") {
+        return read_found(alloc, words);
     }
-    if is(number, b"18") {
-        return Ok(Refusal::NumbersSpent);
+    if is(name, b"view") {
+        return Ok(Reply::View(read_each(alloc, words)?));
     }
-    if is(number, b"19") {
-        return Ok(Refusal::StoreFull);
+    if is(name, b"scan") {
+        return Ok(Reply::Pairs(read_each(alloc, words)?));
     }
-    if is(number, b"20") {
-        return Ok(Refusal::DiskFault);
+    if is(name, b"snapshot") {
+        return Ok(Reply::Snapshot(next_u64(&mut words)?));
+    }
+    if is(name, b"ingested") {
+        return Ok(Reply::Ingested(read_each(alloc, words)?));
+    }
+    if is(name, b"refused") {
+        return Ok(Reply::Refused(read_refusal(alloc, words)?));
     }
     Err(ParseFault::Mismatch)
 }
 
 // The reply of which these are the words.
 fn read_reply_words(alloc: Global, mut words: Words<'_>) -> Result<Reply, ParseFault>
-    ensures { (reply : Reply) → IsPrinted reply → words.entry ≡ reply_words reply → GivesBack result reply }
+    ensures { Gives result (reply_of words.entry) }
 {
-    let kind = words.next().ok_or(ParseFault::Mismatch)?;
-    if is(kind, b"written") {
-        return read_written(words);
+    let name = words.next().ok_or(ParseFault::Mismatch)?;
+    match plain_reply(name) {
+        Some(reply) => Ok(reply),
+        None => read_long_reply(alloc, name, words),
     }
-    if is(kind, b"value") {
-        return read_found(alloc, words);
-    }
-    if is(kind, b"none") {
-        return Ok(Reply::Nothing);
-    }
-    if is(kind, b"refused") {
-        return Ok(Reply::Refused(read_refusal(alloc, words)?));
-    }
-    Err(ParseFault::Mismatch)
 }
 
 // The line without its last byte.
@@ -115,20 +107,20 @@ fn without_last(line: &[u8]) -> Option<&[u8]>
 }
 
 // The place and the reply of which these are the words.
+#[tactic(auto, unfolding(crate::specs::Readings::place_and_reply_of))]
 fn read_line_words(alloc: Global, mut words: Words<'_>) -> Result<(u64, Reply), ParseFault>
-    ensures { (place : ℕ) (reply : Reply) → place < 2 ^ 64 → IsPrinted reply
-        → words.entry ≡ decimal place ∷ reply_words reply → GivesBack result (place, reply) }
+    ensures { Gives result (place_and_reply_of words.entry) }
 {
-    let word = words.next().ok_or(ParseFault::Mismatch)?;
-    let place = read_number(word).ok_or(ParseFault::Mismatch)?;
+    let place = next_u64(&mut words)?;
     let reply = read_reply_words(alloc, words)?;
     Ok((place, reply))
 }
 
 // The place and the reply that print as the line, if any do.
 fn read_candidate(alloc: Global, line: &[u8]) -> Result<(u64, Reply), ParseFault>
-    ensures { (place : ℕ) (reply : Reply) → place < 2 ^ 64 → IsPrinted reply → line.now ≡ line_of place reply
+    ensures whole { (place : ℕ) (reply : Reply) → place < 2 ^ 64 → IsPrinted reply → line.now ≡ line_of place reply
         → GivesBack result (place, reply) }
+    ensures form { IfOk result (λ found. IsPrinted found.1) }
 {
     let text = without_last(line).ok_or(ParseFault::Mismatch)?;
     read_line_words(alloc, Words::new(text))
@@ -152,10 +144,12 @@ fn printed_as(
     }
 }
 
-/// Reads a line of a transcript, line feed included: a place and its reply. `NotAReply` comes exactly where no place
-/// and reply print as the line; `OutOfMemory` may come for any line.
+/// Reads a line of a transcript, line feed included: a place and its reply, which is one that a transcript can have, so
+/// never the refusal `OutOfMemory`. `NotAReply` comes exactly where no place and reply print as the line; `OutOfMemory`
+/// may come for any line.
 pub fn read_reply(alloc: Global, line: &[u8]) -> Result<(u64, Reply), LineFault>
     ensures printed { IfOk result (λ found. line.now ≡ line_of found.0 found.1) }
+    ensures form { IfOk result (λ found. IsPrinted found.1) }
     ensures only { IfOk result (λ found. (place : ℕ) (reply : Reply) → place < 2 ^ 64 → IsPrinted reply
         → line.now ≡ line_of place reply → found ≡ (place, reply)) }
     ensures not_a_reply { IsErrOf result LineFault.NotAReply → (place : ℕ) (reply : Reply) → place < 2 ^ 64

@@ -1,5 +1,6 @@
 ghost use Rattle.std.specs.Prelude.{◌≡◌, ◌<◌, ◌≤◌, ℕ, length, IfOk, IsErrOf, OnOk, Ok, Err};
-ghost use Rattle.cmd_text.specs.Script.{is_command_line, with_line, script_of};
+ghost use Rattle.std.specs.List.{AllByRecursion as Each};
+ghost use Rattle.cmd_text.specs.Script.{IsOfOneKey, is_command_line, with_line, script_of};
 
 use crate::command::read_command;
 use crate::fault::{ParseFault, ScriptFault};
@@ -57,14 +58,16 @@ fn read_line(
 }
 
 /// Reads a client file: its lines are parted by line feeds, its words by one space, and a line that is empty or
-/// begins with `#` is skipped. `Line` names the first line that should be a command and isn't one, or passes a
-/// limit of a key, a value or the 20,000 commands; `OutOfMemory` may come for any text. A text has fewer than
-/// 4,294,967,295 bytes, so that its lines can be numbered.
+/// begins with `#` is skipped. The commands are `put`, `del` and `get`: a write of one operation, or a read of a key now.
+/// `Line` names the first line that should be a command and isn't one, or passes a limit of a key, a value or the 20,000
+/// commands; `OutOfMemory` may come for any text. A text has fewer than 4,294,967,295 bytes, so that its lines can be
+/// numbered.
 #[tactic(auto, using(crate::proofs::Behind::whole_begin, crate::proofs::Behind::whole_line, crate::proofs::Behind::whole_fault))]
 pub fn read_script(alloc: Global, text: &[u8]) -> Result<Script, ScriptFault>
     requires { length text.now < 4294967295 }
     ensures ok { IfOk result (λ script. script_of text.now ≡ Ok script.commands) }
     ensures line { (number : ℕ) → IsErrOf result (ScriptFault.Line number) → script_of text.now ≡ Err number }
+    ensures commands { IfOk result (λ script. Each (λ numbered. IsOfOneKey numbered.command) script.commands) }
     ensures within { IfOk result (λ script. length script.commands ≤ COMMANDS_PER_CLIENT) }
 {
     let mut commands = List::new(alloc);
