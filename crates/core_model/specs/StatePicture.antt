@@ -1,0 +1,76 @@
+-- Representation over a state alone: what is published of the core,
+-- without jobs, turn, capacity and the next family id.
+use Rattle.std.specs.Prelude.{ℕ, Bool, ◌≡◌, IsTrue, List, Some}
+use Rattle.std.specs.List.{AllByRecursion as Each}
+use Rattle.st_base.specs.Map.{value_at}
+use Rattle.st_model.specs.declared.state.ModelFamily.{ModelFamily}
+use Rattle.st_model.specs.declared.state.ModelState.{ModelState}
+use Rattle.st_model.specs.declared.state.Snapshot.{Snapshot}
+use Rattle.st_model.specs.Sound.{IsSound}
+use Rattle.st_model.specs.State.{family_of}
+use Rattle.core_model.specs.Picture.{FamilyView, Core}
+use Rattle.core_model.specs.Relation.{Represents}
+use Rattle.core_model.specs.RelationParts.{ids_of, model_ids, ReadsAs, HasModelMarks, NumbersFall, NumbersWithin, LevelsApart, HasRanges, IsView, HasKnownKeys, HasWritten}
+
+-- what readers see of the core
+pub record StatePicture : Type 0 where
+  pub last : ℕ
+  pub behind : Bool
+  pub charge : ℕ
+  pub families : List (List ℕ × FamilyView)
+  pub live : List Snapshot
+
+-- the state of a core
+abbrev pub state_of : Core → StatePicture
+state_of core = record {
+  last = core.last;
+  behind = core.behind;
+  charge = core.charge;
+  families = core.families;
+  live = core.live;
+}
+
+-- the relation holds of each family of the picture and the model's family of that name
+abbrev pub ForBothIn : StatePicture → ModelState → (FamilyView → ModelFamily → Type 0) → Type 0
+ForBothIn picture state R =
+    (name : List ℕ) (family : FamilyView) (kept : ModelFamily)
+    → value_at picture.families name ≡ Some family → family_of state name ≡ Some kept → R family kept
+
+-- it holds of each family of the picture
+abbrev pub ForEachIn : StatePicture → (FamilyView → Type 0) → Type 0
+ForEachIn picture P = Each (λ named. P named.1) picture.families
+
+-- the place, last number, charge, flag, names and ids, and live snapshots are the model's
+pub record HasSameState (picture : StatePicture) (place : ℕ) (state : ModelState) : Type 0 where
+  pub at : place ≡ state.place
+  pub last : picture.last ≡ state.last
+  pub charge : picture.charge ≡ state.charge
+  pub behind : picture.behind ≡ state.behind
+  pub families : ids_of picture.families ≡ model_ids state.families
+  pub live : picture.live ≡ state.live
+
+-- the picture at this place stands for the model's state: parts 1 to 6 of `Represents`
+pub record RepresentsState (picture : StatePicture) (place : ℕ) (state : ModelState) : Type 0 where
+  -- 1: place, last number, charge, flag, names and ids, live snapshots
+  pub same : HasSameState picture place state
+  -- 2: reads, now and at each live number
+  pub reads : ForBothIn picture state (ReadsAs state)
+  -- 3: numbers fall along the walk, and none is above the last number
+  pub falls : ForEachIn picture NumbersFall
+  pub within : ForEachIn picture (NumbersWithin picture.last)
+  -- 4: levels; with the flag level 6 has exactly the ranges of the files behind
+  pub apart : ForEachIn picture LevelsApart
+  pub ranges : IsTrue picture.behind → ForBothIn picture state HasRanges
+  -- 5: with the flag marks are the model's
+  pub marks : IsTrue picture.behind → ForBothIn picture state (HasModelMarks state)
+  -- 6: keys of entries are known, and those of memtables were written
+  pub known : ForBothIn picture state HasKnownKeys
+  pub written : ForBothIn picture state HasWritten
+  -- what the types keep, and what the model keeps by itself
+  pub views : ForEachIn picture IsView
+  pub sound : IsSound state
+
+-- what a core stands for, its state stands for at the core's place
+abbrev pub CoreRepresentsState : Type 0
+CoreRepresentsState = (core : Core) (state : ModelState) → Represents core state
+    → RepresentsState (state_of core) core.place state
