@@ -1,0 +1,150 @@
+-- Each noted job has outputs that can be installed: its compaction, cut by any target, under fresh file numbers.
+use Rattle.std.proofs.Common.{◌≡◌, ℕ, suc, ◌+◌, ◌<◌, ◌≤◌, cond, List, [], ◌∷◌, ◌++◌, length, Option, Some, None, refl, sym, ap, subst, ◌∙◌, arith, append-nil, append_assoc}
+use Rattle.std.specs.Prelude.{Bool, true, false, ◌==◌, IsTrue, IsFalse, IsSomeAnd, IfSome, find, flat_map, unwrap_or}
+use Rattle.std.specs.Option.{option_map}
+use Rattle.std.specs.List.{AllByRecursion as Each}
+use Rattle.st_base.specs.declared.entry.Entry.{Entry}
+use Rattle.st_base.proofs.Same.{same_self}
+use Rattle.st_base.specs.Range.{meet, range_of}
+use Rattle.st_model.specs.declared.state.ModelState.{ModelState}
+use Rattle.base_laws.proofs.Lists.{each_as}
+use Rattle.core_model.specs.Column.{Pairwise, of_key, column, kept}
+use Rattle.core_model.specs.Compaction.{IsCompaction, cut_tables}
+use Rattle.core_model.specs.Event.{CompactInstalled, FlushInstalled}
+use Rattle.core_model.specs.Relation.{Represents}
+use Rattle.core_model.specs.Picture.{FileEntries, Turn, Job, Core, is_flush, all_tables}
+use Rattle.core_model.specs.Request.{IsRequest, NamesThere}
+use Rattle.core_model.specs.RelationParts.{HasOutputs, IsTurn, files_in_parts}
+use Rattle.core_model.specs.Step.{AreOutputs, AreFresh, IsNow, joined_entries, noted_job, turn_files}
+use Rattle.core_laws.proofs.TableParts.{Differ}
+use Rattle.core_laws.proofs.OutputsExist.{ColumnsFall, compaction_exists}
+use Rattle.core_laws.proofs.Cuts.{cut_joined, cut_some, cut_apart}
+use Rattle.core_laws.proofs.Lists.{pairs_join}
+
+-- lists of entries as tables, with file numbers from this one on
+abbrev pub tables_from : ℕ → List (List Entry) → List FileEntries
+tables_from first [] = []
+tables_from first (entries ∷ more) = record { file = first; entries = entries } ∷ tables_from (suc first) more
+
+joined_from : (first : ℕ) (lists : List (List Entry)) → joined_entries (tables_from first lists) ≡ flat_map (λ one. one) lists
+joined_from first [] = refl
+joined_from first (entries ∷ more) = ap (λ rest. entries ++ rest) (joined_from (suc first) more)
+
+each_from : (P : List Entry → Type 0) (first : ℕ) (lists : List (List Entry)) → Each P lists → Each (λ table. P table.entries) (tables_from first lists)
+each_from P first [] each = tt
+each_from P first (entries ∷ more) each = (each.0, each_from P (suc first) more each.1)
+
+pairs_from : (R : List Entry → List Entry → Type 0) (first : ℕ) (lists : List (List Entry)) → Pairwise R lists → Pairwise (λ one other. R one.entries other.entries) (tables_from first lists)
+pairs_from R first [] pairs = tt
+pairs_from R first (entries ∷ more) pairs = (each_from (R entries) (suc first) more pairs.0, pairs_from R (suc first) more pairs.1)
+
+files_from : (low first : ℕ) (lists : List (List Entry)) → low ≤ first → Each (λ table. low ≤ table.file) (tables_from first lists)
+files_from low first [] le = tt
+files_from low first (entries ∷ more) le = (le, files_from low (suc first) more (omega arith))
+
+differ_from : (first : ℕ) (lists : List (List Entry)) → Pairwise Differ (tables_from first lists)
+differ_from first [] = tt
+differ_from first (entries ∷ more) = (
+  each_as (λ table. suc first ≤ table.file) (λ table. first ≡ table.file → ⊥) (λ table le e. omega arith) (tables_from (suc first) more) (files_from (suc first) (suc first) more (omega arith)),
+  differ_from (suc first) more,
+)
+
+-- a number above the file numbers of these tables
+above_files : (tables : List FileEntries) → (n : ℕ) × Each (λ table. table.file < n) tables
+above_files [] = (0, tt)
+above_files (table ∷ tables) =
+    let rest = above_files tables in
+    (rest.0 + table.file + 1, (omega arith, each_as (λ one. one.file < rest.0) (λ one. one.file < rest.0 + table.file + 1) (λ one lt. omega arith) tables rest.1))
+
+-- the turn's files and those in place differ
+taken_differ : (core : Core) → IfSome core.turn (λ turn. IsTurn core turn × NamesThere core turn.parts × IsRequest turn.parts) → Pairwise Differ (all_tables core) → Pairwise Differ (turn_files core ++ all_tables core)
+taken_differ core turn files = go core.turn turn
+  where
+    go : (o : Option Turn) → IfSome o (λ turn. IsTurn core turn × NamesThere core turn.parts × IsRequest turn.parts) → Pairwise Differ (unwrap_or (option_map (λ turn. files_in_parts turn.parts) o) [] ++ all_tables core)
+    go None t = files
+    go (Some one) t = t.0.fresh
+
+fresh_from : (core : Core) (lists : List (List Entry)) → Pairwise Differ (turn_files core ++ all_tables core) → (first : ℕ) × AreFresh core (tables_from first lists)
+fresh_from core lists differ =
+    let bound = above_files (turn_files core ++ all_tables core) in (
+      bound.0,
+      subst (Pairwise Differ) (sym (append_assoc (tables_from bound.0 lists) (turn_files core) (all_tables core)))
+          (pairs_join Differ (tables_from bound.0 lists) (turn_files core ++ all_tables core) (differ_from bound.0 lists) differ
+          (each_as (λ table. bound.0 ≤ table.file) (λ table. Each (Differ table) (turn_files core ++ all_tables core))
+          (λ table le. each_as (λ one. one.file < bound.0) (Differ table) (λ one lt e. omega arith) (turn_files core ++ all_tables core) bound.1) (tables_from bound.0 lists) (files_from bound.0 bound.0 lists (omega arith)))),
+    )
+
+-- outputs of any job whose inputs' columns fall, whether its family is there or not
+pub outputs_exist : (core : Core) (state : ModelState) (job : Job) (target : ℕ) → Represents core state → ColumnsFall job.inputs → (outputs : List FileEntries) × AreOutputs core job outputs
+outputs_exist core state job target stands falls =
+    let found = compaction_exists job.inputs job.live job.drops falls in
+    let cut : List (List Entry) = cut_tables target found.0 in
+    let fresh = fresh_from core cut (taken_differ core stands.turn stands.files) in (
+      tables_from fresh.0 cut,
+      record {
+        joined = subst (IsCompaction job.inputs job.live job.drops) (sym (joined_from fresh.0 cut ∙ cut_joined target found.0)) found.1;
+        some = each_from (λ entries. 1 ≤ length entries) fresh.0 cut (cut_some target found.0);
+        apart = pairs_from (λ one other. IsFalse (meet (range_of one) (range_of other))) fresh.0 cut (cut_apart target found.0 found.1.ordered);
+        fresh = fresh.1;
+      },
+    )
+
+-- what a noted job keeps
+noted_outputs : (number : ℕ) (job : Job) (jobs : List Job) → Each HasOutputs jobs → find (λ (one : Job). one.number == number) jobs ≡ Some job → HasOutputs job
+noted_outputs number job [] each is = absurd cc
+noted_outputs number job (one ∷ jobs) each is = go (one.number == number) is (noted_outputs number job jobs each.1)
+  where
+    go : (b : Bool) → cond b (Some one) (find (λ (one : Job). one.number == number) jobs) ≡ Some job → (find (λ (one : Job). one.number == number) jobs ≡ Some job → HasOutputs job) → HasOutputs job
+    go true e rest = let w : one ≡ job = cc in subst HasOutputs w each.0
+    go false e rest = rest e
+
+-- each noted compaction can be installed
+pub compaction_can_be_installed : (core : Core) (state : ModelState) (number : ℕ) (job : Job) (target : ℕ) → Represents core state → noted_job core number ≡ Some job → IsFalse (is_flush job)
+    → (outputs : List FileEntries) × IsNow core (CompactInstalled number outputs)
+compaction_can_be_installed core state number job target stands is compaction =
+    let found = outputs_exist core state job target stands (noted_outputs number job core.jobs stands.noted.outputs is).columns in
+    (found.0, subst (λ (o : Option Job). IsSomeAnd o (λ one. IsFalse (is_flush one) × AreOutputs core one found.0)) (sym is) (compaction, found.1))
+
+-- a flush has one output, which isn't empty
+not_empty : (inputs : List (List Entry)) (live : List ℕ) (entries : List Entry) → IsCompaction inputs live [] entries → (key : List ℕ) → 1 ≤ length (column key inputs) → 1 ≤ length entries
+not_empty inputs live [] is key some = absurd (no (column key inputs) some (is.columns key))
+  where
+    no : (found : List Entry) → 1 ≤ length found → [] ≡ kept live found → ⊥
+    no [] none e = omega arith
+    no (entry ∷ found) here e = cc
+not_empty inputs live (entry ∷ entries) is key some = omega arith
+
+flush_has_output : (core : Core) (state : ModelState) (number : ℕ) (job : Job) (entry : Entry) (entries : List Entry) → Represents core state → noted_job core number ≡ Some job → IsTrue (is_flush job)
+    → job.inputs ≡ (entry ∷ entries) ∷ [] → job.drops ≡ [] → ColumnsFall job.inputs → (output : FileEntries) × IsNow core (FlushInstalled number output)
+flush_has_output core state number job entry entries stands is flush inputs drops falls =
+    let found = compaction_exists job.inputs job.live job.drops falls in
+    let fresh = fresh_from core (found.0 ∷ []) (taken_differ core stands.turn stands.files) in (
+      record { file = fresh.0; entries = found.0 },
+      subst (λ (o : Option Job). IsSomeAnd o (λ one. IsTrue (is_flush one) × AreOutputs core one (record { file = fresh.0; entries = found.0 } ∷ []))) (sym is) (
+        flush,
+        record {
+          joined = subst (IsCompaction job.inputs job.live job.drops) (sym (append-nil found.0)) found.1;
+          some = (not_empty job.inputs job.live found.0 (subst (λ ranges. IsCompaction job.inputs job.live ranges found.0) drops found.1) entry.key (subst (λ runs. 1 ≤ length (column entry.key runs)) (sym inputs) has_one), tt);
+          apart = (tt, tt);
+          fresh = fresh.1;
+        },
+      ),
+    )
+  where
+    has_one : 1 ≤ length (column entry.key ((entry ∷ entries) ∷ []))
+    has_one = subst (λ b. 1 ≤ length (cond b (entry ∷ of_key entry.key entries) (of_key entry.key entries) ++ [])) (sym (same_self entry.key)) (omega arith)
+
+one_input : (inputs : List (List Entry)) → length inputs ≡ 1 → Each (λ entries. 1 ≤ length entries) inputs → (entry : Entry) × (entries : List Entry) × (inputs ≡ (entry ∷ entries) ∷ [])
+one_input [] one each = absurd (omega arith)
+one_input ([] ∷ inputs) one each = absurd (omega (arith, each.0))
+one_input ((entry ∷ entries) ∷ []) one each = (entry, entries, refl)
+one_input ((entry ∷ entries) ∷ other ∷ inputs) one each = absurd (omega arith)
+
+-- and each noted flush
+pub flush_can_be_installed : (core : Core) (state : ModelState) (number : ℕ) (job : Job) → Represents core state → noted_job core number ≡ Some job → IsTrue (is_flush job)
+    → (output : FileEntries) × IsNow core (FlushInstalled number output)
+flush_can_be_installed core state number job stands is flush =
+    let has = noted_outputs number job core.jobs stands.noted.outputs is in
+    let facts = has.flush flush in
+    let one = one_input job.inputs facts.0 facts.1 in
+    flush_has_output core state number job one.0 one.1 stands is flush one.2 facts.2 has.columns

@@ -1,0 +1,52 @@
+-- What the laws say beside the claims.
+use Rattle.st_model.specs.State.{new_store}
+use Rattle.core_model.specs.Run.{new_core, EventDoes}
+use Rattle.std.specs.Prelude.{ℕ, Bool, Some, List, ◌≡◌, ◌<◌, ◌^◌, IsFalse, IsTrue}
+use Rattle.std.specs.List.{AllByRecursion as Each}
+use Rattle.st_base.specs.Rows.{AreRows}
+use Rattle.st_base.specs.declared.entry.Entry.{Entry}
+use Rattle.core_model.specs.Relation.{Represents}
+use Rattle.core_model.specs.Event.{Event, CoreReply, CompactInstalled, FlushInstalled}
+use Rattle.core_model.specs.Picture.{Core, FileEntries, is_flush, Job, tables_in, FamilyView}
+use Rattle.st_model.specs.declared.state.ModelState.{ModelState}
+use Rattle.core_model.specs.Step.{IsNow, noted_job}
+use Rattle.core_model.specs.Column.{Pairwise}
+use Rattle.core_model.specs.RelationParts.{IsSortedRun, LevelsApart, IsView}
+use Rattle.core_model.specs.Pick.{picked, PickedTables}
+use Rattle.core_model.specs.WellPicked.{IsWellPicked}
+
+-- a new core stands for a new store
+abbrev pub NewCoreRepresents : Type 0
+NewCoreRepresents = (behind : Bool) (capacity : ℕ) → Represents (new_core behind capacity) (new_store behind)
+
+-- an event that holds has a reply and a core after it
+abbrev pub EventDoesSomething : Type 0
+EventDoesSomething = (core : Core) (state : ModelState) (event : Event) → Represents core state → IsNow core event
+    → (answer : CoreReply) × (after : Core) × EventDoes core event answer after
+
+-- each noted compaction has outputs that can be installed
+abbrev pub CompactionCanBeInstalled : Type 0
+CompactionCanBeInstalled = (core : Core) (state : ModelState) (number : ℕ) (job : Job) (target : ℕ)
+    → Represents core state → noted_job core number ≡ Some job → IsFalse (is_flush job)
+    → (outputs : List FileEntries) × IsNow core (CompactInstalled number outputs)
+
+-- each noted flush has an output that can be installed
+abbrev pub FlushCanBeInstalled : Type 0
+FlushCanBeInstalled = (core : Core) (state : ModelState) (number : ℕ) (job : Job) → Represents core state
+    → noted_job core number ≡ Some job → IsTrue (is_flush job)
+    → (output : FileEntries) × IsNow core (FlushInstalled number output)
+
+-- what is picked is in place, near, clear and free
+abbrev pub PickedIsWellPicked : Type 0
+PickedIsWellPicked = (core : Core) (family : FamilyView) (whole : Bool) (chosen : PickedTables) → IsView family
+    → LevelsApart family → Pairwise (λ one other. one.file ≡ other.file → ⊥) (tables_in family.levels)
+    → picked core family whole ≡ Some chosen → IsWellPicked core family chosen
+
+-- rows are a sorted run
+abbrev pub RowsAreSorted : Type 0
+RowsAreSorted = (entries : List Entry) → AreRows entries → IsSortedRun entries
+
+-- a sorted run whose numbers have 64 bits is rows
+abbrev pub SortedAreRows : Type 0
+SortedAreRows = (entries : List Entry) → IsSortedRun entries → Each (λ entry. entry.number < 2 ^ 64) entries
+    → AreRows entries

@@ -1,0 +1,98 @@
+//! Each law is the contract of a function without a body: it is proved where that contract is.
+ghost use Rattle.core_model.specs.Run.{StepRefines, EveryRunRefines};
+ghost use Rattle.core_laws.specs.Laws.{NewCoreRepresents, EventDoesSomething, CompactionCanBeInstalled, FlushCanBeInstalled, PickedIsWellPicked, RowsAreSorted, SortedAreRows};
+ghost use Rattle.core_laws.specs.Claims.{PickedRuns, RunsAreClear, CompactionExists, CompactionIsOne, RulePasses, RuleIsFree, NoCauseNoEntry};
+ghost use Rattle.core_laws.specs.Underway.{FileKeepsUnderway, CommitStands};
+ghost use Rattle.core_model.specs.StatePicture.{CoreRepresentsState};
+
+/// Each event is a step of the list model: its reply is the model's, and the core after it stands for the model's next state.
+pub fn step_refines()
+    ensures { StepRefines }
+{}
+
+/// So is every list of events, from a new core on.
+pub fn every_run_refines()
+    ensures { EveryRunRefines }
+{}
+
+/// A new core stands for a new store.
+pub fn new_core_represents()
+    ensures { NewCoreRepresents }
+{}
+
+/// An event that holds has a reply and a core after it.
+pub fn event_does_something()
+    ensures { EventDoesSomething }
+{}
+
+/// Each noted compaction has outputs that can be installed.
+pub fn compaction_can_be_installed()
+    ensures { CompactionCanBeInstalled }
+{}
+
+/// Each noted flush has an output that can be installed.
+pub fn flush_can_be_installed()
+    ensures { FlushCanBeInstalled }
+{}
+
+/// What is picked is in place, near, clear and free.
+pub fn picked_is_well_picked()
+    ensures { PickedIsWellPicked }
+{}
+
+/// What is picked runs beside the jobs that run, and keeps reads.
+pub fn picked_runs()
+    ensures { PickedRuns }
+{}
+
+/// No lower range meets a range in which tombstones may go.
+pub fn runs_are_clear()
+    ensures { RunsAreClear }
+{}
+
+/// Columns that don't rise have a compaction.
+pub fn compaction_exists()
+    ensures { CompactionExists }
+{}
+
+/// Inputs have at most one compaction.
+pub fn compaction_is_one()
+    ensures { CompactionIsOne }
+{}
+
+/// Down to the level that the rule gives, no level stops the walk.
+pub fn rule_passes()
+    ensures { RulePasses }
+{}
+
+/// No table at the level that the rule gives meets the file.
+pub fn rule_is_free()
+    ensures { RuleIsFree }
+{}
+
+/// Without a cause no level has an entry in the file's range.
+pub fn no_cause_no_entry()
+    ensures { NoCauseNoEntry }
+{}
+
+/// A request under way stays so with each file that is placed.
+pub fn file_keeps_underway()
+    ensures { FileKeepsUnderway }
+{}
+
+/// A commit that nothing refuses leaves a core that stands for the model with the request.
+pub fn commit_stands()
+    ensures { CommitStands }
+{}
+
+/// What a core stands for, its state stands for at the core's place: what is published of the core answers reads as the model
+/// does.
+pub fn represents_state()
+    ensures { CoreRepresentsState }
+{}
+
+/// The rows of a memtable or a table are a sorted run, as representation asks; a sorted run whose numbers have 64 bits is rows.
+pub fn rows_are_sorted_runs()
+    ensures sorted { RowsAreSorted }
+    ensures rows { SortedAreRows }
+{}
