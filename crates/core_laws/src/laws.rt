@@ -5,7 +5,8 @@ ghost use Rattle.core_laws.specs.Claims.{PickedRuns, RunsAreClear, CompactionExi
 ghost use Rattle.core_laws.specs.Underway.{FileKeepsUnderway, CommitStands};
 ghost use Rattle.core_model.specs.StatePicture.{CoreRepresentsState};
 
-/// Each event is a step of the list model: its reply is the model's, and the core after it stands for the model's next state.
+/// Each event is a step of the list model: its reply is the model's, and the core after it stands for the model's
+/// next state.
 pub fn step_refines()
     ensures { StepRefines }
 {}
@@ -85,13 +86,14 @@ pub fn commit_stands()
     ensures { CommitStands }
 {}
 
-/// What a core stands for, its state stands for at the core's place: what is published of the core answers reads as the model
-/// does.
+/// What a core stands for, its state stands for at the core's place: what is published of the core answers reads as
+/// the model does.
 pub fn represents_state()
     ensures { CoreRepresentsState }
 {}
 
-/// The rows of a memtable or a table are a sorted run, as representation asks; a sorted run whose numbers have 64 bits is rows.
+/// The rows of a memtable or a table are a sorted run, as representation asks; a sorted run whose numbers have 64
+/// bits is rows.
 pub fn rows_are_sorted_runs()
     ensures sorted { RowsAreSorted }
     ensures rows { SortedAreRows }

@@ -1,9 +1,10 @@
 //! The laws of the core: each event, and so each list of events, is a step of the list model.
 //!
-//! Each law is the contract of a function without a body, and its statement stands in `specs/`: `Claims` (single parts), `Laws`,
-//! `Underway` (a request file by file), `SoundCore` (what an event keeps of a core alone). The layer above relies on
-//! `step_refines`: where a core stands for a state of the model, the answer of an event is the model's, and the core after it
-//! stands for the state after it. That an event which holds does something is `event_does_something`.
+//! Each law is the contract of a function without a body, and its statement stands in `specs/`: `Claims` (single
+//! parts), `Laws`, `Underway` (a request file by file), `SoundCore` (what an event keeps of a core alone). The layer
+//! above relies on `step_refines`: where a core stands for a state of the model, the answer of an event is the
+//! model's, and the core after it stands for the state after it. That an event which holds does something is
+//! `event_does_something`.
 #![tactic(auto)]
 
 mod laws;

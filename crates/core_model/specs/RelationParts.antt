@@ -24,8 +24,8 @@ use Rattle.core_model.specs.Picture.{FileEntries, FamilyView, Job, Part, Turn, C
 abbrev pub FitsSizes : Entry → Type 0
 FitsSizes entry = (length entry.key ≤ 65535) × FitsMark entry.mark
 
--- The entries of a memtable or a table: in entry order, keys and values within their limits. That numbers are below 2^64
--- isn't said here, since a request is placed in the core file by file before it is refused for numbers.
+-- The entries of a memtable or a table: in entry order, keys and values within their limits. That numbers are below
+-- 2^64 isn't said here, since a request is placed in the core file by file before it is refused for numbers.
 pub record IsSortedRun (entries : List Entry) : Type 0 where
   pub ordered : IsTrue (in_order entries)
   pub within : Each FitsSizes entries

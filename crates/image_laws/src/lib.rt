@@ -1,9 +1,11 @@
-//! The laws of images: what is tied to a core opens to the contents of its state, in each step of each call and of an opening.
+//! The laws of images: what is tied to a core opens to the contents of its state, in each step of each call and of an
+//! opening.
 //!
-//! Each law is the contract of a function without a body, and its statement stands in `specs/` here or in `store_image`. The engine
-//! relies on three kinds: `tied_opens` (an image that is tied to a core opens to the contents of each state that the core stands
-//! for); of each call `.._move` (its edits are one group, and an image with all of its records is tied to the core after it) and
-//! `step_unnamed` (files that nothing names are free); of an opening `opening_holds` and `opening_steps`.
+//! Each law is the contract of a function without a body, and its statement stands in `specs/` here or in
+//! `store_image`. The engine relies on three kinds: `tied_opens` (an image that is tied to a core opens to the
+//! contents of each state that the core stands for); of each call `.._move` (its edits are one group, and an image
+//! with all of its records is tied to the core after it) and `step_unnamed` (files that nothing names are free); of
+//! an opening `opening_holds` and `opening_steps`.
 #![tactic(auto)]
 
 mod laws;
