@@ -41,7 +41,7 @@ use Rattle.ingest_app.specs.declared.answer.Answer.{Answer}
 use Rattle.ingest_app.proofs.Printed.{transcript_grows, transcript_length}
 
 -- no command sees a file
-pub no_files : List Command → List (List FileSeen)
+abbrev pub no_files : List Command → List (List FileSeen)
 no_files commands = map (λ _. []) commands
 
 -- The calls so far are legal, the store stands where they lead, they are printed, and each image opens to the contents
@@ -116,7 +116,7 @@ served_awaits transcripts (command.Ingest arguments) call h other = absurd h
 served_awaits transcripts (command.Await client number) call h other = absurd h
 
 -- a reply to it is no await, has no file, and comes from no fault of the inputs
-record IsPlain (reply : Reply) : Type 0 where
+pub record IsPlain (reply : Reply) : Type 0 where
   pub await : reply ≢ Await
   pub files : placed_of reply ≡ []
   pub inputs : is_input_fault reply ≡ false
@@ -353,7 +353,7 @@ moments_push from until [] within = (within, le_refl until)
 moments_push from until (moment ∷ moments) within = (within.0, moments_push moment until moments within.1)
 
 -- a moment more, where the call is a change
-next_moments : (b : Bool) → List ℕ → ℕ → List ℕ
+abbrev next_moments : Bool → List ℕ → ℕ → List ℕ
 next_moments b moments moment = cond b (moments ++ moment ∷ []) moments
 
 next_in_turn : (b : Bool) (from until later : ℕ) (moments : List ℕ) → until ≤ later → AreMoments from until moments → AreMoments from later (next_moments b moments later)
@@ -395,9 +395,6 @@ module _ {D : Type 0} (tells : D → DiskTold) (name text text' : List ℕ) (ope
   abbrev call : Call
   call = answered_call one more.answer
 
-  abbrev calls' : List Call
-  calls' = old.calls ++ answered_call one more.answer ∷ []
-
   steps : EngineSteps old_store new_store was is (tells mid) (tells new) old.state (answered_call one more.answer)
   steps = more.steps old.state old.stands
 
@@ -409,17 +406,17 @@ module _ {D : Type 0} (tells : D → DiskTold) (name text text' : List ℕ) (ope
       (length text - heading) more.cut (transcript_length name old.calls text heading old.printed first)
 
   -- images since an earlier moment, with those of the call
-  on : IsHonest before → (least t : ℕ) (image : Image) → least ≤ changes_in (old.calls ∷ []) → t ≤ (tells mid).moment → ((image : Image) → (tells mid).since t image → IsOfRun opening (old.calls ∷ []) least image) → (tells new).since t image → IsOfRun opening (calls' ∷ []) least image
+  on : IsHonest before → (least t : ℕ) (image : Image) → least ≤ changes_in (old.calls ∷ []) → t ≤ (tells mid).moment → ((image : Image) → (tells mid).since t image → IsOfRun opening (old.calls ∷ []) least image) → (tells new).since t image → IsOfRun opening ((old.calls ++ answered_call one more.answer ∷ []) ∷ []) least image
   on honest least t image le earlier so_far left = ⊎_elim
-      (λ (running : was ≡ None). since_then (IsOfRun opening (calls' ∷ []) least) t earlier q
+      (λ (running : was ≡ None). since_then (IsOfRun opening ((old.calls ++ answered_call one more.answer ∷ []) ∷ []) least) t earlier q
       (λ x before_it. more_of_run opening was is old.calls (answered_call one more.answer) old.state old.legal old.newest old.is step plain steps.change steps.still least x (so_far x before_it))
-      (λ x during. fewer (calls' ∷ []) least (changes_in (old.calls ∷ [])) le x (call_of_run opening was is old.calls (answered_call one more.answer) old.state old.legal old.newest old.is step plain steps.change steps.still x (steps.crash (p.honest_on honest) running x during)))
+      (λ x during. fewer ((old.calls ++ answered_call one more.answer ∷ []) ∷ []) least (changes_in (old.calls ∷ [])) le x (call_of_run opening was is old.calls (answered_call one more.answer) old.state old.legal old.newest old.is step plain steps.change steps.still x (steps.crash (p.honest_on honest) running x during)))
       image left)
       (λ (is_same : new ≡ mid). more_of_run opening was is old.calls (answered_call one more.answer) old.state old.legal old.newest old.is step plain steps.change steps.still least image (so_far image (subst (λ disk. (tells disk).since t image) is_same left)))
       same
 
   -- images at the end of the call
-  end_now : IsHonest before → (o : Option ℕ) → is ≡ o → (image : Image) → (tells new).now image → IsOfRun opening (calls' ∷ []) (changes_in (calls' ∷ [])) image
+  end_now : IsHonest before → (o : Option ℕ) → is ≡ o → (image : Image) → (tells new).now image → IsOfRun opening ((old.calls ++ answered_call one more.answer ∷ []) ∷ []) (changes_in ((old.calls ++ answered_call one more.answer ∷ []) ∷ [])) image
   end_now honest None none image now = after_of_run opening was is old.calls (answered_call one more.answer) old.state old.legal old.newest old.is step plain steps.change steps.still image (steps.whole (p.honest_on honest) none image now)
   end_now honest (Some stop) some image now =
       let none : is_change more.answer.reply ≡ false = steps.stopped (ap is_some some) in
@@ -430,22 +427,22 @@ module _ {D : Type 0} (tells : D → DiskTold) (name text text' : List ℕ) (ope
       same)
 
   -- from now on no image lacks the change
-  kept_now : IsHonest before → (b : Bool) → is_change more.answer.reply ≡ b → AreKept opening (calls' ∷ []) (tells new) 0 (next_moments b old.moments (tells new).moment)
+  kept_now : IsHonest before → (b : Bool) → is_change more.answer.reply ≡ b → AreKept opening ((old.calls ++ answered_call one more.answer ∷ []) ∷ []) (tells new) 0 (next_moments b old.moments (tells new).moment)
   kept_now honest b change =
-      let so_far : AreKept opening (calls' ∷ []) (tells new) 0 old.moments =
-      kept_more opening (old.calls ∷ []) (calls' ∷ []) (tells mid) (tells new) before.moment 0 (changes_in (old.calls ∷ [])) old.moments (on honest) (le_of_eq old.each_change) old.in_turn (old.kept honest) in
+      let so_far : AreKept opening ((old.calls ++ answered_call one more.answer ∷ []) ∷ []) (tells new) 0 old.moments =
+      kept_more opening (old.calls ∷ []) ((old.calls ++ answered_call one more.answer ∷ []) ∷ []) (tells mid) (tells new) before.moment 0 (changes_in (old.calls ∷ [])) old.moments (on honest) (omega (arith, old.each_change)) old.in_turn (old.kept honest) in
       go b change so_far
     where
-      go : (b : Bool) → is_change more.answer.reply ≡ b → AreKept opening (calls' ∷ []) (tells new) 0 old.moments → AreKept opening (calls' ∷ []) (tells new) 0 (next_moments b old.moments (tells new).moment)
+      go : (b : Bool) → is_change more.answer.reply ≡ b → AreKept opening ((old.calls ++ answered_call one more.answer ∷ []) ∷ []) (tells new) 0 old.moments → AreKept opening ((old.calls ++ answered_call one more.answer ∷ []) ∷ []) (tells new) 0 (next_moments b old.moments (tells new).moment)
       go false change so_far = so_far
       go true change so_far =
-          let count : changes_in (calls' ∷ []) ≡ 0 + length old.moments + 1 = count_of opening was is old.calls (answered_call one more.answer) old.state old.legal old.newest old.is step plain steps.change steps.still ∙ ap (λ b. changes_in (old.calls ∷ []) + cond b 1 0) change ∙ ap (λ n. n + 1) (sym old.each_change) in
-          kept_push opening (calls' ∷ []) (tells new) 0 (tells new).moment old.moments so_far
-          (λ image left. subst (λ n. IsOfRun opening (calls' ∷ []) n image) count (end_now honest is refl image (clock.only_now image left)))
+          let count : changes_in ((old.calls ++ answered_call one more.answer ∷ []) ∷ []) ≡ 0 + length old.moments + 1 = count_of opening was is old.calls (answered_call one more.answer) old.state old.legal old.newest old.is step plain steps.change steps.still ∙ ap (λ b. changes_in (old.calls ∷ []) + cond b 1 0) change ∙ ap (λ n. n + 1) (sym old.each_change) ∙ (let e : length old.moments + 1 ≡ 0 + length old.moments + 1 = omega arith in e) in
+          kept_push opening ((old.calls ++ answered_call one more.answer ∷ []) ∷ []) (tells new) 0 (tells new).moment old.moments so_far
+          (λ image left. subst (λ n. IsOfRun opening ((old.calls ++ answered_call one more.answer ∷ []) ∷ []) n image) count (end_now honest is refl image (clock.only_now image left)))
 
   pub along_grows : Along name text' opening before (tells new) new_store is (commands ++ one ∷ [])
   along_grows = record {
-    calls = calls';
+    calls = old.calls ++ answered_call one more.answer ∷ [];
     answers = old.answers ++ (more.answer.place, more.answer.reply) ∷ [];
     are = are_more commands old.answers old.calls one more.answer served old.are;
     state = after old.state (answered_call one more.answer);
@@ -456,7 +453,7 @@ module _ {D : Type 0} (tells : D → DiskTold) (name text text' : List ℕ) (ope
     unknown = each_push IsStrangerTold old.calls (answered_call one more.answer) old.unknown steps.unknown;
     printed = transcript_grows name old.calls (answered_call one more.answer) text' text old.printed more.printed;
     moments = next_moments (is_change more.answer.reply) old.moments (tells new).moment;
-    each_change = next_count (is_change more.answer.reply) old.moments (tells new).moment (changes_in (old.calls ∷ [])) (changes_in (calls' ∷ [])) old.each_change
+    each_change = next_count (is_change more.answer.reply) old.moments (tells new).moment (changes_in (old.calls ∷ [])) (changes_in ((old.calls ++ answered_call one more.answer ∷ []) ∷ [])) old.each_change
         (count_of opening was is old.calls (answered_call one more.answer) old.state old.legal old.newest old.is step plain steps.change steps.still);
     in_turn = next_in_turn (is_change more.answer.reply) before.moment (tells mid).moment (tells new).moment old.moments q.later old.in_turn;
     crash = λ honest image left. on honest 0 before.moment image zero-le p.later (old.crash honest) left;

@@ -84,7 +84,7 @@ read_is [] (Some value) = (refl, refl, refl)
 read_is (name ∷ names) value = (refl, refl, refl)
 
 -- what is told of a refusal of a write: whether it names the first of these families, and that no input failed
-TellsOf : List (List ℕ) → Refusal → Type 0
+abbrev TellsOf : List (List ℕ) → Refusal → Type 0
 TellsOf names refusal = ((Refused refusal ≡ Refused Stopped) ⊎ (refused_name refusal ≡ slice_get names 0)) × (is_input_fault (Refused refusal) ≡ false)
 
 -- the tests that aren't on families name none
@@ -98,17 +98,16 @@ first_tells : (names : List (List ℕ)) (p q r : Bool) (refusal : Refusal) → s
 first_tells [] p q r refusal e = other_tells p q r refusal e
 first_tells (name ∷ names) p q r refusal e = let is : UnknownFamily name ≡ refusal = cc in subst (TellsOf (name ∷ names)) is (inr refl, refl)
 
-fault_tells : (names : List (List ℕ)) (others : List Refusal) → slice_get (map UnknownFamily names ++ others) 0 ≡ None → TellsOf names DiskFault
-fault_tells [] others none = (inr refl, refl)
-fault_tells (name ∷ names) others none = absurd (cc none)
+fault_tells : (names : List (List ℕ)) (a b d : List Refusal) → slice_get (map UnknownFamily names ++ a ++ b ++ d) 0 ≡ None → TellsOf names DiskFault
+fault_tells [] a b d none = (inr refl, refl)
+fault_tells (name ∷ names) a b d none = absurd (cc none)
 
 write_tells : (names : List (List ℕ)) (p q r : Bool) (refusal : Refusal) → IsFirst (map UnknownFamily names ++ refused_if p NumbersSpent ++ refused_if q NumbersSpent ++ refused_if r StoreFull) refusal → (refusal ≡ OutOfMemory → ⊥) → TellsOf names refusal
 write_tells names p q r refusal is memory =
-    let others : List Refusal = refused_if p NumbersSpent ++ refused_if q NumbersSpent ++ refused_if r StoreFull in
     elim (first_cases (map UnknownFamily names ++ refused_if p NumbersSpent ++ refused_if q NumbersSpent ++ refused_if r StoreFull) refusal is) [
       | inl out ↦ absurd (memory out)
       | inr (inl stopped) ↦ subst (TellsOf names) (sym stopped) (inl refl, refl)
-      | inr (inr (inl fault)) ↦ subst (TellsOf names) (sym fault.0) (fault_tells names others fault.1)
+      | inr (inr (inl fault)) ↦ subst (TellsOf names) (sym fault.0) (fault_tells names (refused_if p NumbersSpent) (refused_if q NumbersSpent) (refused_if r StoreFull) fault.1)
       | inr (inr (inr first)) ↦ first_tells names p q r refusal first
     ]
 
@@ -217,6 +216,10 @@ long_steps store was before state command place h is crash whole = record {
 pub cut_of : (reply : Reply) (is : Bool) → is_long reply ≡ false → is ≡ false → is_long reply ≡ is
 cut_of reply is short none = short ∙ sym none
 
+pub if_ok_all : {T E : Type 0} (Q : T → Type 0) (r : Result T E) → ((x : T) → Q x) → IfOk r Q
+if_ok_all Q (Ok x) all = all x
+if_ok_all Q (Err e) all = tt
+
 pub if_ok_map : {T E : Type 0} (P Q : T → Type 0) (r : Result T E) → ((x : T) → P x → Q x) → IfOk r P → IfOk r Q
 if_ok_map P Q (Ok x) f p = f x p
 if_ok_map P Q (Err e) f p = tt
@@ -258,7 +261,7 @@ no_stop_of (refused.FamilyTwice a) fault stopped = refl
 no_stop_of refused.TooManyFiles fault stopped = refl
 no_stop_of (refused.FileMissing at) fault stopped = refl
 no_stop_of (refused.InputFault at) fault stopped = refl
-no_stop_of (refused.BadTable at fault) fault stopped = refl
+no_stop_of (refused.BadTable at found) fault stopped = refl
 no_stop_of (refused.NoEntry at) fault stopped = refl
 no_stop_of (refused.FilesMeet at file) fault stopped = refl
 no_stop_of refused.Stopped fault stopped = absurd (stopped refl)

@@ -29,7 +29,19 @@ module _ (clients : List ClientScript) (text : List ℕ) (opening : ModelState) 
     transcripts = a.transcripts;
     answers = record {
       answered = a.answers.answered;
-      legal = record a.answers.legal { causes = record { inputs = a.answers.legal.causes.inputs; disk = λ none. absurd (true≢false none); stopped = a.answers.legal.causes.stopped } };
+      legal = let legal = a.answers.legal in record {
+        begins = legal.begins;
+        asked = legal.asked;
+        once = legal.once;
+        in_order = legal.in_order;
+        awaits = legal.awaits;
+        within = legal.within;
+        accepted = legal.accepted;
+        answered = legal.answered;
+        files = legal.files;
+        cut = legal.cut;
+        causes = record { inputs = legal.causes.inputs; disk = λ none. absurd (true≢false none); stopped = legal.causes.stopped };
+      };
       printed = a.answers.printed;
     };
     moments = a.moments;

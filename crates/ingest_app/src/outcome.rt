@@ -1,5 +1,5 @@
 //! What a run is to write, before the sink takes it.
-ghost use Rattle.std.specs.Prelude.{◌≡◌, ◌≤◌, ℕ, List, Option, Some, None, length, IfOk, IfSome, IsTrue, map, String, string_bytes};
+ghost use Rattle.std.specs.Prelude.{◌≡◌, ◌≤◌, ◌||◌, ℕ, List, Option, Some, None, length, IfOk, IfSome, IsTrue, map, String, string_bytes};
 ghost use Rattle.std.specs.Option.{option_copied};
 ghost use Rattle.st_base.specs.Names.{is_name};
 ghost use Rattle.std.specs.List.{AllByRecursion as Each};
@@ -83,11 +83,11 @@ fn damaged_text(alloc: Global, file: u64, at: u64) -> Result<Bytes, AllocError>
     Ok(text)
 }
 
-// The status of clients that were answered, by whether the disk failed.
-fn answered_status(failed: bool) -> Status
-    ensures { result ≡ answered_status failed }
+// The status of clients that were answered, by whether a fault stopped the store, and whether the disk's count rose.
+fn answered_status(stopped: bool, rose: bool) -> Status
+    ensures { result ≡ answered_status (stopped || rose) }
 {
-    if failed {
+    if stopped || rose {
         Status::DiskFault
     } else {
         Status::Done
@@ -119,7 +119,7 @@ fn run_engine<D: Disk>(
     let answered = answer_script(alloc, name, script, &mut engine);
     let stopped = engine.stopped().is_some();
     let disk = engine.close();
-    let status = answered_status(stopped || disk.faults() != faults);
+    let status = answered_status(stopped, disk.faults() != faults);
     match answered {
         Ok(text) => (Ok(Outcome { status, text }), disk),
         Err(_) => (Err(AllocError), disk),

@@ -1,5 +1,6 @@
 use Rattle.std.proofs.Common.{length, append-nil, ◌≡◌, inl, inr, ⊎_elim, ◌+◌, ◌++◌, ◌∷◌, [], ◌∙◌, None, map, take, refl, ap, sym, subst}
 use Rattle.std.proofs.lemmas.List.{map-append, take_all, take_more}
+use Rattle.std.specs.List.{AllByRecursion as Each}
 use Rattle.st_base.specs.Count.{Rose}
 use Rattle.st_device.specs.Disk.{Image, IsHonest}
 use Rattle.st_device.proofs.Calls.{rose_later, rose_then}
@@ -46,6 +47,8 @@ loop-numbered-preserved g c =
     let items = c.as_slice-numbered-items.result.now in
     let named : Numbered → Command = λ numbered. numbered.command in
     let command = c.numbered-item.result.command in
+    let served : IsServed command = each_at (λ (n : Numbered). IsServed n.command) items c.loop-numbered.numbered-index c.numbered-item.result c.loop-numbered-test.true c.numbered-item.is
+    (subst (Each (λ (n : Numbered). IsServed n.command)) (sym c.as_slice-numbered-items.ensures) c.requires.served) in
     let taken : map named (take c.loop-numbered.numbered-index items) ++ command ∷ [] ≡ map named (take (c.loop-numbered.numbered-index + 1) items) =
     sym (map-append named (take c.loop-numbered.numbered-index items) (c.numbered-item.result ∷ []))
     ∙ ap (λ (n : Numbered). map named (take c.loop-numbered.numbered-index items ++ n ∷ [])) c.numbered-item.is
