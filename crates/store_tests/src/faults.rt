@@ -42,7 +42,10 @@ fn conversion_faults(
             sink,
         };
         let ended = converted(rt.alloc(), form, bytes, failing)?;
-        assert!(rt; ended.is(status, written.as_bytes()), "{form} {source} {sink}");
+        assert!(rt;
+            ended.is(status, written.as_bytes()),
+            "{form} {source} {sink}"
+        );
     }
     Ok(())
 }

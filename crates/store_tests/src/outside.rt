@@ -159,12 +159,7 @@ pub fn run_source(alloc: Global, form: &str, bytes: &[u8]) -> Result<Ended, Fail
 }
 
 /// A conversion of a source of these bytes.
-pub fn converted(
-    alloc: Global,
-    form: &str,
-    bytes: &[u8],
-    failing: Failing,
-) -> Result<Ended, Fail> {
+pub fn converted(alloc: Global, form: &str, bytes: &[u8], failing: Failing) -> Result<Ended, Fail> {
     let mut outside = make_outside(alloc, form, "", bytes, failing)?;
     let status = outside.convert(alloc);
     let written = Bytes::from_slice(alloc, outside.written())?;

@@ -2,7 +2,7 @@
 use crate::outside::{NONE, disk, run_new, run_over};
 use ingest_app::Status;
 use st_device::{Disk, MemDisk};
-use std::alloc::{AllocError, Global};
+use std::alloc::Global;
 use std::test::Fail;
 
 const ROW: &str = "put default a 1\nget default a\ndel default a\nget default a\n";
@@ -92,33 +92,5 @@ fn marked(alloc: Global) -> Result<MemDisk, Fail> {
 fn a_store_without_its_log_is_damaged(rt: HostRuntime) -> Result<(), Fail> {
     let (ended, _) = run_over(rt.alloc(), "run one", ROW, NONE, marked(rt.alloc())?)?;
     assert!(rt; ended.is(Status::Damaged, b"damaged 3 0\n"));
-    Ok(())
-}
-
-// A client file that prints 16,777,132 bytes behind the first line, and 7 more for each of so many reads of nothing.
-fn long_script(alloc: Global, reads: usize) -> Result<String, AllocError> {
-    let mut text = "put default a ".to_string(alloc)?;
-    for _ in 0..1_048_561 {
-        text.push('v')?;
-    }
-    text.push('\n')?;
-    for _ in 0..16 {
-        text.push_str("get default a\n")?;
-    }
-    for _ in 0..reads {
-        text.push_str("get default b\n")?;
-    }
-    Ok(text)
-}
-
-// A read behind 16,777,216 bytes is cut, and one behind fewer isn't.
-#[test]
-fn reads_of_a_long_transcript_are_cut(rt: HostRuntime) -> Result<(), Fail> {
-    for (reads, end) in [(12, "1 none\n1 none\n"), (13, "1 none\n1 long\n")] {
-        let text = long_script(rt.alloc(), reads)?;
-        let ended = run_new(rt.alloc(), "run one", text.as_str(), NONE, 0)?;
-        assert!(rt; ended.status == Status::Done, "{reads}");
-        assert!(rt; ended.written.as_slice().ends_with(end.as_bytes()), "{reads}");
-    }
     Ok(())
 }
