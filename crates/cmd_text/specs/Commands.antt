@@ -6,6 +6,7 @@ use Rattle.st_base.specs.Names.{is_family}
 use Rattle.st_base.specs.declared.fault.MakeFault.{MakeFault}
 use Rattle.st_base.specs.declared.fault.MakeFault.TheVariants.{Limit}
 use Rattle.st_base.specs.declared.fault.MakeFault.TheVariants as make
+use Rattle.st_base.specs.declared.limits.TheConstants.{KEY_BYTES, VALUE_BYTES}
 use Rattle.st_model.specs.declared.change.Op.{Op}
 use Rattle.st_model.specs.declared.change.Op.TheVariants.{Put, Del}
 use Rattle.st_model.specs.declared.command.Command.{Command}
@@ -26,10 +27,10 @@ abbrev pub family_of_word : List ℕ → Option (List ℕ)
 family_of_word word = if is_family word then Some word else None
 
 abbrev pub key_of_word : List ℕ → Option (List ℕ)
-key_of_word word = bytes_of_word word >>= within 65535
+key_of_word word = bytes_of_word word >>= within KEY_BYTES
 
 abbrev pub value_of_word : List ℕ → Option (List ℕ)
-value_of_word word = bytes_of_word word >>= within 1048576
+value_of_word word = bytes_of_word word >>= within VALUE_BYTES
 
 -- ---- the arguments of a command
 

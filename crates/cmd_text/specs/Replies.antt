@@ -8,6 +8,7 @@ use Rattle.st_base.specs.declared.faults.BlockFault.{BlockFault}
 use Rattle.st_base.specs.declared.faults.BlockFault.TheVariants as block
 use Rattle.st_base.specs.declared.faults.TableFault.{TableFault}
 use Rattle.st_base.specs.declared.faults.TableFault.TheVariants as table
+use Rattle.st_base.specs.declared.limits.TheConstants.{KEY_BYTES, VALUE_BYTES}
 use Rattle.st_model.specs.Line.{refusal_words, reply_words}
 use Rattle.st_model.specs.declared.refusal.FileAt.{FileAt}
 use Rattle.st_model.specs.declared.refusal.Refusal.{Refusal}
@@ -26,11 +27,11 @@ use Rattle.cmd_text.specs.declared.fault.ParseFault.TheVariants as parse
 
 pub record IsKey (key : List ℕ) : Type 0 where
   pub bytes : AreBytes key
-  pub within : length key ≤ 65535
+  pub within : length key ≤ KEY_BYTES
 
 pub record IsValue (value : List ℕ) : Type 0 where
   pub bytes : AreBytes value
-  pub within : length value ≤ 1048576
+  pub within : length value ≤ VALUE_BYTES
 
 pub record IsFileAt (at : FileAt) : Type 0 where
   pub argument : at.arg < 2 ^ 32

@@ -2,6 +2,7 @@
 use Rattle.std.specs.Prelude.{ℕ, Bool, false, not, ◌≡◌, ⊤, ◌==◌, ◌+◌, nat_lt, length, List, [], ◌∷◌, ◌++◌, filter, if◌then◌else◌}
 use Rattle.std.specs.Prelude.{Option, Some, None, Result, Ok, Err}
 use Rattle.std.specs.List.{enumerate_from}
+use Rattle.st_base.specs.declared.limits.TheConstants.{COMMANDS_PER_CLIENT}
 use Rattle.st_model.specs.declared.command.Command.{Command}
 use Rattle.st_model.specs.declared.command.Command.TheVariants.{Write, Get}
 use Rattle.cmd_text.specs.declared.script.Numbered.{Numbered}
@@ -19,7 +20,7 @@ command_lines text = filter (λ line. is_command_line line.1) (enumerate_from 1 
 
 -- the command of a line that follows so many commands: a client file has at most 20,000
 abbrev pub command_behind : ℕ → List ℕ → Option Command
-command_behind before line = if nat_lt before 20000 then command_of line else None
+command_behind before line = if nat_lt before COMMANDS_PER_CLIENT then command_of line else None
 
 -- the command stands before the others; the number of a line that isn't a command stands alone
 abbrev pub in_front : ℕ → Option Command → Result (List Numbered) ℕ → Result (List Numbered) ℕ

@@ -27,7 +27,7 @@ pub(crate) fn push_number(out: &mut Bytes, number: u64) -> Result<(), AllocError
 
 // Appends the word as it stands, after a space.
 #[tactic(auto, using(crate::proofs::Printing::one_spaced))]
-pub(crate) fn push_plain(out: &mut Bytes, word: &[u8]) -> Result<(), AllocError>
+pub(crate) fn push_next_plain(out: &mut Bytes, word: &[u8]) -> Result<(), AllocError>
     ensures ok { OnOk result (out.new ≡ out.old ++ spaced (word.now ∷ [])) }
     ensures err { OnErr result (Extends out.old out.new) }
 {
@@ -37,7 +37,7 @@ pub(crate) fn push_plain(out: &mut Bytes, word: &[u8]) -> Result<(), AllocError>
 
 // Appends the number, after a space.
 #[tactic(auto, using(crate::proofs::Printing::one_spaced))]
-pub(crate) fn push_count(out: &mut Bytes, number: u64) -> Result<(), AllocError>
+pub(crate) fn push_next_number(out: &mut Bytes, number: u64) -> Result<(), AllocError>
     ensures ok { OnOk result (out.new ≡ out.old ++ spaced (decimal number ∷ [])) }
     ensures err { OnErr result (Extends out.old out.new) }
 {
@@ -47,7 +47,7 @@ pub(crate) fn push_count(out: &mut Bytes, number: u64) -> Result<(), AllocError>
 
 // Appends the word of the bytes, after a space.
 #[tactic(auto, using(crate::proofs::Printing::one_spaced))]
-pub(crate) fn push_spelled(out: &mut Bytes, bytes: &[u8]) -> Result<(), AllocError>
+pub(crate) fn push_next_word(out: &mut Bytes, bytes: &[u8]) -> Result<(), AllocError>
     ensures ok { OnOk result (out.new ≡ out.old ++ spaced (word bytes.now ∷ [])) }
     ensures err { OnErr result (Extends out.old out.new) }
 {
@@ -84,11 +84,11 @@ fn push_rest(out: &mut Bytes, reply: &Reply) -> Result<(), AllocError>
     ensures err { OnErr result (Extends out.old out.new) }
 {
     match reply {
-        Reply::Written(number) => push_count(out, *number),
-        Reply::Found(value) => push_spelled(out, value.as_bytes()),
+        Reply::Written(number) => push_next_number(out, *number),
+        Reply::Found(value) => push_next_word(out, value.as_bytes()),
         Reply::View(values) => push_each(out, values.as_slice()),
         Reply::Pairs(pairs) => push_each(out, pairs.as_slice()),
-        Reply::Snapshot(number) => push_count(out, *number),
+        Reply::Snapshot(number) => push_next_number(out, *number),
         Reply::Ingested(placed) => push_each(out, placed.as_slice()),
         Reply::Refused(refusal) => push_refusal(out, refusal),
         Reply::Nothing => Ok(()),

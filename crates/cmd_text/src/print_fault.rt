@@ -5,7 +5,7 @@ ghost use Rattle.st_base.specs.Faults.{named, printed_block_fault, printed_table
 ghost use Rattle.build_text.specs.Words.{Extends};
 ghost use Rattle.cmd_text.specs.Replies.{spaced};
 
-use crate::print::push_count;
+use crate::print::push_next_number;
 use st_base::{BlockFault, Bytes, TableFault};
 use std::alloc::AllocError;
 
@@ -16,7 +16,7 @@ fn push_named(out: &mut Bytes, name: &[u8], number: u64) -> Result<(), AllocErro
     ensures err { OnErr result (Extends out.old out.new) }
 {
     out.extend_from_slice(name)?;
-    push_count(out, number)
+    push_next_number(out, number)
 }
 
 // Appends the name, and two numbers, each after a space.
@@ -26,7 +26,7 @@ fn push_twice_named(out: &mut Bytes, name: &[u8], first: u64, second: u64) -> Re
     ensures err { OnErr result (Extends out.old out.new) }
 {
     push_named(out, name, first)?;
-    push_count(out, second)
+    push_next_number(out, second)
 }
 
 #[tactic(auto, using(crate::proofs::Printing::named_more))]
@@ -35,7 +35,7 @@ fn push_sum(out: &mut Bytes, at: u64, stored: u32, found: u32) -> Result<(), All
     ensures err { OnErr result (Extends out.old out.new) }
 {
     push_twice_named(out, b"Sum", at, u64::from(stored))?;
-    push_count(out, u64::from(found))
+    push_next_number(out, u64::from(found))
 }
 
 fn push_block_fault(out: &mut Bytes, fault: &BlockFault) -> Result<(), AllocError>
@@ -97,7 +97,7 @@ fn push_table_fault(out: &mut Bytes, fault: &TableFault) -> Result<(), AllocErro
 
 // Appends the printed fault, after a space.
 #[tactic(auto, using(crate::proofs::Printing::one_spaced))]
-pub(crate) fn push_fault_word(out: &mut Bytes, fault: &TableFault) -> Result<(), AllocError>
+pub(crate) fn push_next_fault(out: &mut Bytes, fault: &TableFault) -> Result<(), AllocError>
     ensures ok { OnOk result (out.new ≡ out.old ++ spaced (printed_table_fault fault.now ∷ [])) }
     ensures err { OnErr result (Extends out.old out.new) }
 {

@@ -7,8 +7,8 @@ ghost use Rattle.st_model.specs.Line.{file_words, range_words, refusal_words, wh
 ghost use Rattle.build_text.specs.Words.{Extends};
 ghost use Rattle.cmd_text.specs.Replies.{refusal_text, spaced};
 
-use crate::print::{push_count, push_plain, push_spelled};
-use crate::print_fault::push_fault_word;
+use crate::print::{push_next_number, push_next_plain, push_next_word};
+use crate::print_fault::push_next_fault;
 use st_base::{Bytes, Key, KeyRange, TableFault};
 use st_model::{FileAt, Refusal, Why};
 use std::alloc::AllocError;
@@ -48,19 +48,19 @@ fn head_of(refusal: &Refusal) -> &'static [u8]
 }
 
 #[tactic(auto, using(crate::proofs::Printing::spaced_then))]
-fn push_counts(out: &mut Bytes, first: u64, second: u64) -> Result<(), AllocError>
+fn push_two_numbers(out: &mut Bytes, first: u64, second: u64) -> Result<(), AllocError>
     ensures ok { OnOk result (out.new ≡ out.old ++ spaced (decimal first ∷ decimal second ∷ [])) }
     ensures err { OnErr result (Extends out.old out.new) }
 {
-    push_count(out, first)?;
-    push_count(out, second)
+    push_next_number(out, first)?;
+    push_next_number(out, second)
 }
 
 fn push_file(out: &mut Bytes, at: FileAt) -> Result<(), AllocError>
     ensures ok { OnOk result (out.new ≡ out.old ++ spaced (file_words at)) }
     ensures err { OnErr result (Extends out.old out.new) }
 {
-    push_counts(out, u64::from(at.arg), u64::from(at.file))
+    push_two_numbers(out, u64::from(at.arg), u64::from(at.file))
 }
 
 #[tactic(auto, using(crate::proofs::Printing::spaced_then))]
@@ -68,8 +68,8 @@ fn push_range(out: &mut Bytes, range: &KeyRange) -> Result<(), AllocError>
     ensures ok { OnOk result (out.new ≡ out.old ++ spaced (range_words range.now)) }
     ensures err { OnErr result (Extends out.old out.new) }
 {
-    push_spelled(out, range.first.as_bytes())?;
-    push_spelled(out, range.last.as_bytes())
+    push_next_word(out, range.first.as_bytes())?;
+    push_next_word(out, range.last.as_bytes())
 }
 
 // Appends the words that follow the cause's name, each after a space.
@@ -78,10 +78,10 @@ fn push_why_arguments(out: &mut Bytes, why: &Why) -> Result<(), AllocError>
     ensures err { OnErr result (Extends out.old out.new) }
 {
     match why {
-        Why::Key(key) => push_spelled(out, key.as_bytes()),
+        Why::Key(key) => push_next_word(out, key.as_bytes()),
         Why::Running(range) => push_range(out, range),
-        Why::Snapshot(number) => push_count(out, *number),
-        Why::Files(i, j) => push_counts(out, u64::from(*i), u64::from(*j)),
+        Why::Snapshot(number) => push_next_number(out, *number),
+        Why::Files(i, j) => push_two_numbers(out, u64::from(*i), u64::from(*j)),
         Why::Meets(range) => push_range(out, range),
     }
 }
@@ -112,29 +112,29 @@ fn push_bad_table(out: &mut Bytes, at: FileAt, fault: &TableFault) -> Result<(),
     ensures err { OnErr result (Extends out.old out.new) }
 {
     push_file(out, at)?;
-    push_fault_word(out, fault)
+    push_next_fault(out, fault)
 }
 
 #[tactic(auto, using(crate::proofs::Printing::spaced_then))]
-fn push_files_meet(out: &mut Bytes, at: FileAt, file: u32) -> Result<(), AllocError>
-    ensures ok { OnOk result (out.new ≡ out.old ++ spaced (file_words at ++ decimal file ∷ [])) }
+fn push_file_and_number(out: &mut Bytes, at: FileAt, number: u32) -> Result<(), AllocError>
+    ensures ok { OnOk result (out.new ≡ out.old ++ spaced (file_words at ++ decimal number ∷ [])) }
     ensures err { OnErr result (Extends out.old out.new) }
 {
     push_file(out, at)?;
-    push_count(out, u64::from(file))
+    push_next_number(out, u64::from(number))
 }
 
 #[tactic(auto, using(crate::proofs::Printing::spaced_then))]
-fn push_key_of_file(out: &mut Bytes, at: FileAt, key: &Key) -> Result<(), AllocError>
+fn push_file_and_key(out: &mut Bytes, at: FileAt, key: &Key) -> Result<(), AllocError>
     ensures ok { OnOk result (out.new ≡ out.old ++ spaced (file_words at ++ word key.now ∷ [])) }
     ensures err { OnErr result (Extends out.old out.new) }
 {
     push_file(out, at)?;
-    push_spelled(out, key.as_bytes())
+    push_next_word(out, key.as_bytes())
 }
 
 #[tactic(auto, using(crate::proofs::Printing::spaced_then))]
-fn push_range_of_file(out: &mut Bytes, at: FileAt, range: &KeyRange) -> Result<(), AllocError>
+fn push_file_and_range(out: &mut Bytes, at: FileAt, range: &KeyRange) -> Result<(), AllocError>
     ensures ok { OnOk result (out.new ≡ out.old ++ spaced (file_words at ++ range_words range.now)) }
     ensures err { OnErr result (Extends out.old out.new) }
 {
@@ -143,7 +143,7 @@ fn push_range_of_file(out: &mut Bytes, at: FileAt, range: &KeyRange) -> Result<(
 }
 
 #[tactic(auto, using(crate::proofs::Printing::spaced_then))]
-fn push_why_of_file(out: &mut Bytes, at: FileAt, why: &Why) -> Result<(), AllocError>
+fn push_file_and_why(out: &mut Bytes, at: FileAt, why: &Why) -> Result<(), AllocError>
     ensures ok { OnOk result (out.new ≡ out.old ++ spaced (file_words at ++ why_words why.now)) }
     ensures err { OnErr result (Extends out.old out.new) }
 {
@@ -152,11 +152,11 @@ fn push_why_of_file(out: &mut Bytes, at: FileAt, why: &Why) -> Result<(), AllocE
 }
 
 #[tactic(auto, using(crate::proofs::Printing::spaced_then))]
-fn push_level_of_file(out: &mut Bytes, at: FileAt, level: u8, why: &Why) -> Result<(), AllocError>
+fn push_level_and_why(out: &mut Bytes, at: FileAt, level: u8, why: &Why) -> Result<(), AllocError>
     ensures ok { OnOk result (out.new ≡ out.old ++ spaced (file_words at ++ decimal level ∷ why_words why.now)) }
     ensures err { OnErr result (Extends out.old out.new) }
 {
-    push_files_meet(out, at, u32::from(level))?;
+    push_file_and_number(out, at, u32::from(level))?;
     push_why(out, why)
 }
 
@@ -166,24 +166,24 @@ fn push_arguments(out: &mut Bytes, refusal: &Refusal) -> Result<(), AllocError>
     ensures err { OnErr result (Extends out.old out.new) }
 {
     match refusal {
-        Refusal::NoFiles(argument) => push_count(out, u64::from(*argument)),
-        Refusal::FamilyTwice(argument) => push_count(out, u64::from(*argument)),
+        Refusal::NoFiles(argument) => push_next_number(out, u64::from(*argument)),
+        Refusal::FamilyTwice(argument) => push_next_number(out, u64::from(*argument)),
         Refusal::FileMissing(at) => push_file(out, *at),
         Refusal::InputFault(at) => push_file(out, *at),
         Refusal::BadTable(at, fault) => push_bad_table(out, *at, fault),
         Refusal::NoEntry(at) => push_file(out, *at),
-        Refusal::FilesMeet(at, file) => push_files_meet(out, *at, *file),
-        Refusal::UnknownFamily(name) => push_plain(out, name.as_bytes()),
-        Refusal::BehindNotEnabled(argument) => push_count(out, u64::from(*argument)),
+        Refusal::FilesMeet(at, file) => push_file_and_number(out, *at, *file),
+        Refusal::UnknownFamily(name) => push_next_plain(out, name.as_bytes()),
+        Refusal::BehindNotEnabled(argument) => push_next_number(out, u64::from(*argument)),
         Refusal::SnapshotsLive(argument, number) => {
-            push_counts(out, u64::from(*argument), *number)
+            push_two_numbers(out, u64::from(*argument), *number)
         }
-        Refusal::FlushNeeded(at, key) => push_key_of_file(out, *at, key),
-        Refusal::BehindDoesNotFit(at, range) => push_range_of_file(out, *at, range),
-        Refusal::NeedsSequence(at, why) => push_why_of_file(out, *at, why),
-        Refusal::NotLastLevel(at, level, why) => push_level_of_file(out, *at, *level, why),
-        Refusal::FamilyExists(name) => push_plain(out, name.as_bytes()),
-        Refusal::SnapshotGone(id) => push_count(out, *id),
+        Refusal::FlushNeeded(at, key) => push_file_and_key(out, *at, key),
+        Refusal::BehindDoesNotFit(at, range) => push_file_and_range(out, *at, range),
+        Refusal::NeedsSequence(at, why) => push_file_and_why(out, *at, why),
+        Refusal::NotLastLevel(at, level, why) => push_level_and_why(out, *at, *level, why),
+        Refusal::FamilyExists(name) => push_next_plain(out, name.as_bytes()),
+        Refusal::SnapshotGone(id) => push_next_number(out, *id),
         Refusal::EmptyRequest => Ok(()),
         Refusal::TooManyFiles => Ok(()),
         Refusal::Stopped => Ok(()),
