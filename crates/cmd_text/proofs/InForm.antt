@@ -1,19 +1,13 @@
 -- What is read of the words of a line is a reply that a transcript can have.
-use Rattle.std.proofs.Common.{◌≡◌, ℕ, Bool, true, false, cond, ◌&&◌, ◌<◌, ◌≤◌, ◌+◌, ◌-◌, ◌*◌, ◌^◌, ◌==◌, nat_lt, nat_le, List, [], ◌∷◌, length, IsTrue, refl, sym, subst, arith}
+use Rattle.std.proofs.Common.{◌≡◌, ℕ, Bool, true, false, cond, ◌&&◌, ◌<◌, ◌≤◌, ◌+◌, ◌-◌, ◌*◌, ◌^◌, ◌==◌, nat_lt, nat_le, List, [], ◌∷◌, length, IsTrue, refl, subst, arith}
 use Rattle.std.specs.Prelude.{⊤, Some, None, Option, Result, Ok, Err, IfOk, codes}
 use Rattle.std.specs.List.{AllByRecursion as Each}
 use Rattle.std.proofs.lemmas.Bool.{and_parts, ltb-true, leb-true}
 use Rattle.st_base.specs.Bytes.{same}
 use Rattle.st_base.specs.Names.{is_digit, is_family}
-use Rattle.st_base.specs.declared.entry.KeyRange.{KeyRange}
-use Rattle.st_base.specs.declared.faults.BlockFault.{BlockFault}
-use Rattle.st_base.specs.declared.faults.TableFault.{TableFault}
 use Rattle.st_base.specs.declared.faults.TableFault.TheVariants as table
 use Rattle.st_model.specs.declared.refusal.FileAt.{FileAt}
-use Rattle.st_model.specs.declared.refusal.Refusal.{Refusal}
-use Rattle.st_model.specs.declared.refusal.Why.{Why}
 use Rattle.st_model.specs.declared.refusal.Why.TheVariants as why
-use Rattle.st_model.specs.declared.reply.Placed.{Placed}
 use Rattle.st_model.specs.declared.reply.Reply.{Reply}
 use Rattle.build_text.specs.Words.{◌>>=◌, bytes_of_word}
 use Rattle.build_text.proofs.SpelledBytes.{only_word}

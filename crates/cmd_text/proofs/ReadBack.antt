@@ -1,8 +1,8 @@
 -- The line of a printed reply is read as this reply.
-use Rattle.std.proofs.Common.{◌≡◌, ℕ, Bool, true, false, cond, ◌&&◌, ◌==◌, ◌<◌, ◌≤◌, ◌+◌, ◌-◌, ◌*◌, ◌/◌, ◌%◌, ◌^◌, nat_le, nat_lt, List, [], ◌∷◌, ◌++◌, length, length-append, map, IsTrue, refl, sym, ap, ◌∙◌, subst, arith}
-use Rattle.std.specs.Prelude.{⊤, Some, None, Option, Result, Ok, Err, codes}
+use Rattle.std.proofs.Common.{◌≡◌, ℕ, true, cond, ◌&&◌, ◌<◌, ◌≤◌, ◌+◌, ◌-◌, ◌*◌, ◌/◌, ◌%◌, ◌^◌, nat_le, nat_lt, List, [], ◌∷◌, ◌++◌, length, length-append, map, IsTrue, refl, sym, ap, ◌∙◌, arith}
+use Rattle.std.specs.Prelude.{Some, None, Option, Result, Ok, Err, codes}
 use Rattle.std.specs.Fmt.{decimal}
-use Rattle.std.specs.List.{AllByRecursion as Each, slice_split}
+use Rattle.std.specs.List.{AllByRecursion as Each}
 use Rattle.std.proofs.lemmas.Bool.{and_from, cond-true, le-leb, lt-ltb}
 use Rattle.std.proofs.lemmas.Fmt.{decimal_by_steps}
 use Rattle.st_base.specs.Faults.{named, printed_block_fault, printed_table_fault}
@@ -22,10 +22,10 @@ use Rattle.st_model.specs.declared.refusal.Why.TheVariants as why
 use Rattle.st_model.specs.declared.reply.Placed.{Placed}
 use Rattle.st_model.specs.declared.reply.Reply.{Reply}
 use Rattle.st_model.specs.declared.reply.Reply.TheVariants as reply
-use Rattle.build_text.specs.Words.{◌>>=◌, bytes_of_word, parts_at, two_words, words}
-use Rattle.build_text.proofs.Joining.{cut_first, cut_one, lacks, join_lacks, one-lacks}
+use Rattle.build_text.specs.Words.{◌>>=◌, two_words, words}
+use Rattle.build_text.proofs.Joining.{cut_first, cut_one, lacks, join_lacks}
 use Rattle.build_text.proofs.SpelledBytes.{read_word as spelled_back}
-use Rattle.cmd_text.specs.Commands.{Gives, family_of_word, key_of_word, value_of_word, within}
+use Rattle.cmd_text.specs.Commands.{Gives, key_of_word, value_of_word, within}
 use Rattle.cmd_text.specs.Readings.{Reading, with_digit, with_digits, number_of_word, number_below, next_word, next_number, next_below, next_file, next_key, next_range, next_family_name}
 use Rattle.cmd_text.specs.Readings.{plain_fault, counted_fault, block_fault_named, block_fault_of, external_version_of, sum_fault_of, inner_fault_of, kind_fault_of, number_fault_of, long_fault, or_other, fault_of}
 use Rattle.cmd_text.specs.Readings.{why_named, why_of, plain_refusal, snapshots_live_of, bad_table_of, not_last_level_of, refusal_at, file_refusal, long_refusal, refusal_of}

@@ -1,13 +1,13 @@
 -- The words of a reply's line: those that are printed, none of which but the fault of a table has a space.
 use Rattle.std.proofs.Common.{◌≡◌, ℕ, Bool, true, false, cond, ◌&&◌, ◌==◌, ◌<◌, ◌+◌, ◌/◌, ◌%◌, ◌^◌, nat_le, nat_lt, not, List, [], ◌∷◌, ◌++◌, length, map, IsTrue, refl, sym, ap, ◌∙◌, arith, append-nil, append_assoc, true≢false}
-use Rattle.std.specs.Prelude.{⊤, Some, None, Option, codes, flat_map}
+use Rattle.std.specs.Prelude.{Some, None, Option, codes, flat_map}
 use Rattle.std.specs.Fmt.{decimal}
-use Rattle.std.specs.List.{AllByRecursion as Each, list_all, join_with_byte, slice_split, onto_first}
+use Rattle.std.specs.List.{AllByRecursion as Each, list_all, join_with_byte, onto_first}
 use Rattle.std.proofs.lemmas.Bool.{and_parts, and_from, ltb-true}
 use Rattle.std.proofs.lemmas.Fmt.{decimal_by_steps}
 use Rattle.std.proofs.lemmas.List.Concat.{flat_map-append}
 use Rattle.std.proofs.lemmas.List.Splits.{length-slice_split}
-use Rattle.st_base.specs.Faults.{named, printed_block_fault, printed_table_fault}
+use Rattle.st_base.specs.Faults.{named, printed_table_fault}
 use Rattle.st_base.specs.Names.{is_family, is_family_byte}
 use Rattle.st_base.specs.declared.entry.KeyRange.{KeyRange}
 use Rattle.st_base.specs.declared.faults.TableFault.{TableFault}
@@ -22,7 +22,7 @@ use Rattle.st_model.specs.declared.reply.Placed.{Placed}
 use Rattle.st_model.specs.declared.reply.Reply.{Reply}
 use Rattle.st_model.specs.declared.reply.Reply.TheVariants as reply
 use Rattle.build_text.specs.Words.{words}
-use Rattle.cmd_text.specs.Replies.{IsFileAt, IsPrinted, IsPrintedPair, IsPrintedPlaced, IsPrintedRead, IsPrintedRefusal, IsRange, IsWhy}
+use Rattle.cmd_text.specs.Replies.{IsFileAt, IsPrinted, IsPrintedPair, IsPrintedPlaced, IsPrintedRead, IsPrintedRefusal, IsWhy}
 use Rattle.build_text.proofs.Joining.{all-pass, cut_one, join_lacks, lacks, one-lacks, other_than, word_lacks}
 
 -- ---- the words of a line are those of its parts
