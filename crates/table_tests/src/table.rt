@@ -1,10 +1,10 @@
 use crate::samples::{ONE, ROCKSDB, shared};
 use st_base::{
-    BlockFault, Bytes, EntryRef, KEY_BYTES, MarkRef, Rows, Scratch, TableFault as Fault,
+    BlockFault, Bytes, EntryRef, KEY_BYTES, MarkRef, Renumber, Rows, Scratch, TableFault as Fault,
     VALUE_BYTES,
 };
 use st_code::crc32c;
-use st_table::{OpenTableFault, Table, TableKind, table_or_first_fault};
+use st_table::{OpenTableFault, Table, TableKind, own_numbers_stay, table_or_first_fault};
 use std::alloc::{AllocError, Global};
 use table_writer::{AddFault, TableWriter};
 
@@ -581,11 +581,12 @@ fn open_under(alloc: Global, text: &[u8], number: u64) -> Result<Table, OpenTabl
     Table::open(alloc, shared(alloc, text)?, TableKind::External, number)
 }
 
-// Whether the table has 22 entries, which act under number 9.
+// Whether the table has 22 entries, which act under number 9, with their charge.
 fn acts_under_nine(table: &Table, scratch: &mut Scratch) -> bool {
     table.len() == 22
         && number_of(table.find(b"key02", 9, scratch)) == Some(9)
         && number_of(table.find(b"key02", 8, scratch)) == None
+        && table.charge() == 1_213
 }
 
 #[test]
@@ -596,4 +597,28 @@ fn entries_act_under_a_number(rt: HostRuntime) {
         .expect(&rt, "a table");
     let mut scratch = Scratch::new(rt.alloc()).expect(&rt, "memory");
     assert!(rt; acts_under_nine(&table, &mut scratch));
+}
+
+// Whether the external table of these bytes, put under number 9, acts under it, and the table that it shares its entries
+// with acts under its own numbers as before.
+fn is_shared(alloc: Global, text: &[u8], scratch: &mut Scratch) -> Result<bool, OpenTableFault> {
+    table_or_first_fault();
+    own_numbers_stay();
+    let table = Table::open(alloc, shared(alloc, text)?, TableKind::External, 0)?;
+    let numbered = table.with_number(alloc, 9)?;
+    Ok(
+        acts_under_nine(&numbered, scratch)
+            && number_of(table.find(b"key02", 8, scratch)) == Some(0)
+            && table.charge() == numbered.charge(),
+    )
+}
+
+#[test]
+fn a_table_is_put_under_a_number(rt: HostRuntime) {
+    let text = written(rt.alloc(), EXTERNAL, Sample::Several).expect(&rt, "a table");
+    let mut scratch = Scratch::new(rt.alloc()).expect(&rt, "memory");
+    let is_right = is_shared(rt.alloc(), text.as_slice(), &mut scratch)
+        .ok()
+        .expect(&rt, "a table");
+    assert!(rt; is_right);
 }
