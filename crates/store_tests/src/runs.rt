@@ -81,7 +81,7 @@ fn each_run_reads_those_before_it(rt: HostRuntime) -> Result<(), Fail> {
 
 // A disk with a mark and no log.
 fn marked(alloc: Global) -> Result<MemDisk, Fail> {
-    let mut disk = disk(alloc, 0)?;
+    let mut disk = MemDisk::new(alloc, Vec::new(alloc));
     match disk.create(1) {
         Ok(()) => Ok(disk),
         Err(_) => Err(Fail::new("the mark isn't made")),
