@@ -6,18 +6,17 @@ use Rattle.std.specs.List.{AllByRecursion as Each}
 use Rattle.st_base.specs.declared.entry.Entry.{Entry}
 use Rattle.st_base.proofs.Same.{same_self}
 use Rattle.st_base.specs.Range.{meet, range_of}
-use Rattle.st_model.specs.declared.state.ModelState.{ModelState}
-use Rattle.base_laws.proofs.Lists.{each_as}
+use Rattle.base_laws.proofs.Lists.{each_as, map_each}
 use Rattle.core_model.specs.Column.{Pairwise, of_key, column, kept}
 use Rattle.core_model.specs.Compaction.{IsCompaction, cut_tables}
-use Rattle.core_model.specs.Event.{CompactInstalled, FlushInstalled}
-use Rattle.core_model.specs.Relation.{Represents}
-use Rattle.core_model.specs.Picture.{FileEntries, Turn, Job, Core, is_flush, all_tables}
+use Rattle.core_model.specs.Picture.{FileEntries, Turn, Job, Core, is_flush, all_tables, runs_of}
 use Rattle.core_model.specs.Request.{IsRequest, NamesThere}
 use Rattle.core_model.specs.RelationParts.{HasOutputs, IsTurn, files_in_parts}
-use Rattle.core_model.specs.Step.{AreOutputs, AreFresh, IsNow, joined_entries, noted_job, turn_files}
+use Rattle.core_model.specs.Step.{AreOutputs, AreFresh, joined_entries, turn_files}
 use Rattle.core_laws.proofs.TableParts.{Differ}
-use Rattle.core_laws.proofs.OutputsExist.{ColumnsFall, compaction_exists}
+use Rattle.core_laws.proofs.OutputsExist.{compaction_exists, fall_weakly}
+use Rattle.core_laws.proofs.Members.{map_pairs}
+use Rattle.core_laws.specs.Laws.{CompactionCanBeInstalled, FlushCanBeInstalled, FlushOutputCanBeInstalled, OutputsCanBeInstalled}
 use Rattle.core_laws.proofs.Cuts.{cut_joined, cut_some, cut_apart}
 use Rattle.core_laws.proofs.Lists.{pairs_join}
 
@@ -74,20 +73,23 @@ fresh_from core lists differ =
           (λ table le. each_as (λ one. one.file < bound.0) (Differ table) (λ one lt e. omega arith) (turn_files core ++ all_tables core) bound.1) (tables_from bound.0 lists) (files_from bound.0 bound.0 lists (omega arith)))),
     )
 
--- outputs of any job whose inputs' columns fall, whether its family is there or not
-pub outputs_exist : (core : Core) (state : ModelState) (job : Job) (target : ℕ) → Represents core state → ColumnsFall job.inputs → (outputs : List FileEntries) × AreOutputs core job outputs
-outputs_exist core state job target stands falls =
-    let found = compaction_exists job.inputs job.live job.drops falls in
-    let cut : List (List Entry) = cut_tables target found.0 in
-    let fresh = fresh_from core cut (taken_differ core stands.turn stands.files) in (
-      tables_from fresh.0 cut,
-      record {
-        joined = subst (IsCompaction job.inputs job.live job.drops) (sym (joined_from fresh.0 cut ∙ cut_joined target found.0)) found.1;
-        some = each_from (λ entries. 1 ≤ length entries) fresh.0 cut (cut_some target found.0);
-        apart = pairs_from (λ one other. IsFalse (meet (range_of one) (range_of other))) fresh.0 cut (cut_apart target found.0 found.1.ordered);
-        fresh = fresh.1;
-      },
-    )
+runs_from : (first : ℕ) (lists : List (List Entry)) → runs_of (tables_from first lists) ≡ lists
+runs_from first [] = refl
+runs_from first (entries ∷ more) = ap (λ rest. entries ∷ rest) (runs_from (suc first) more)
+
+joined_runs : (tables : List FileEntries) → joined_entries tables ≡ flat_map (λ one. one) (runs_of tables)
+joined_runs [] = refl
+joined_runs (table ∷ tables) = ap (λ rest. table.entries ++ rest) (joined_runs tables)
+
+-- a job's compaction, cut at any target, under fresh file numbers
+outputs_are : (core : Core) (job : Job) (target : ℕ) (entries : List Entry) (outputs : List FileEntries) → IsCompaction job.inputs job.live job.drops entries → runs_of outputs ≡ cut_tables target entries → AreFresh core outputs → AreOutputs core job outputs
+outputs_are core job target entries outputs is cut fresh = record {
+  joined = subst (IsCompaction job.inputs job.live job.drops) (sym (joined_runs outputs ∙ ap (flat_map (λ one. one)) cut ∙ cut_joined target entries)) is;
+  some = map_each (λ run. 1 ≤ length run) (λ (table : FileEntries). table.entries) outputs (subst (Each (λ run. 1 ≤ length run)) (sym cut) (cut_some target entries));
+  apart = map_pairs (λ one other. IsFalse (meet (range_of one) (range_of other))) (λ (table : FileEntries). table.entries) outputs
+      (subst (Pairwise (λ one other. IsFalse (meet (range_of one) (range_of other)))) (sym cut) (cut_apart target entries is.ordered));
+  fresh = fresh;
+}
 
 -- what a noted job keeps
 noted_outputs : (number : ℕ) (job : Job) (jobs : List Job) → Each HasOutputs jobs → find (λ (one : Job). one.number == number) jobs ≡ Some job → HasOutputs job
@@ -98,12 +100,18 @@ noted_outputs number job (one ∷ jobs) each is = go (one.number == number) is (
     go true e rest = let w : one ≡ job = cc in subst HasOutputs w each.0
     go false e rest = rest e
 
--- each noted compaction can be installed
-pub compaction_can_be_installed : (core : Core) (state : ModelState) (number : ℕ) (job : Job) (target : ℕ) → Represents core state → noted_job core number ≡ Some job → IsFalse (is_flush job)
-    → (outputs : List FileEntries) × IsNow core (CompactInstalled number outputs)
+-- such outputs of a noted compaction can be installed
+pub outputs_can_be_installed : OutputsCanBeInstalled
+outputs_can_be_installed core number job target entries outputs is compaction compacted_is cut fresh =
+    subst (λ (o : Option Job). IsSomeAnd o (λ one. IsFalse (is_flush one) × AreOutputs core one outputs)) (sym is) (compaction, outputs_are core job target entries outputs compacted_is cut fresh)
+
+-- and each noted compaction has such
+pub compaction_can_be_installed : CompactionCanBeInstalled
 compaction_can_be_installed core state number job target stands is compaction =
-    let found = outputs_exist core state job target stands (noted_outputs number job core.jobs stands.noted.outputs is).columns in
-    (found.0, subst (λ (o : Option Job). IsSomeAnd o (λ one. IsFalse (is_flush one) × AreOutputs core one found.0)) (sym is) (compaction, found.1))
+    let found = compaction_exists job.inputs job.live job.drops (fall_weakly job.inputs (noted_outputs number job core.jobs stands.noted.outputs is).columns) in
+    let fresh = fresh_from core (cut_tables target found.0) (taken_differ core stands.turn stands.files) in
+    let outputs = tables_from fresh.0 (cut_tables target found.0) in
+    (found.0, found.1, outputs, runs_from fresh.0 (cut_tables target found.0), outputs_can_be_installed core number job target found.0 outputs is compaction found.1 (runs_from fresh.0 (cut_tables target found.0)) fresh.1)
 
 -- a flush has one output, which isn't empty
 not_empty : (inputs : List (List Entry)) (live : List ℕ) (entries : List Entry) → IsCompaction inputs live [] entries → (key : List ℕ) → 1 ≤ length (column key inputs) → 1 ≤ length entries
@@ -114,37 +122,33 @@ not_empty inputs live [] is key some = absurd (no (column key inputs) some (is.c
     no (entry ∷ found) here e = cc
 not_empty inputs live (entry ∷ entries) is key some = omega arith
 
-flush_has_output : (core : Core) (state : ModelState) (number : ℕ) (job : Job) (entry : Entry) (entries : List Entry) → Represents core state → noted_job core number ≡ Some job → IsTrue (is_flush job)
-    → job.inputs ≡ (entry ∷ entries) ∷ [] → job.drops ≡ [] → ColumnsFall job.inputs → (output : FileEntries) × IsNow core (FlushInstalled number output)
-flush_has_output core state number job entry entries stands is flush inputs drops falls =
-    let found = compaction_exists job.inputs job.live job.drops falls in
-    let fresh = fresh_from core (found.0 ∷ []) (taken_differ core stands.turn stands.files) in (
-      record { file = fresh.0; entries = found.0 },
-      subst (λ (o : Option Job). IsSomeAnd o (λ one. IsTrue (is_flush one) × AreOutputs core one (record { file = fresh.0; entries = found.0 } ∷ []))) (sym is) (
-        flush,
-        record {
-          joined = subst (IsCompaction job.inputs job.live job.drops) (sym (append-nil found.0)) found.1;
-          some = (not_empty job.inputs job.live found.0 (subst (λ ranges. IsCompaction job.inputs job.live ranges found.0) drops found.1) entry.key (subst (λ runs. 1 ≤ length (column entry.key runs)) (sym inputs) has_one), tt);
-          apart = (tt, tt);
-          fresh = fresh.1;
-        },
-      ),
-    )
-  where
-    has_one : 1 ≤ length (column entry.key ((entry ∷ entries) ∷ []))
-    has_one = subst (λ b. 1 ≤ length (cond b (entry ∷ of_key entry.key entries) (of_key entry.key entries) ++ [])) (sym (same_self entry.key)) (omega arith)
-
 one_input : (inputs : List (List Entry)) → length inputs ≡ 1 → Each (λ entries. 1 ≤ length entries) inputs → (entry : Entry) × (entries : List Entry) × (inputs ≡ (entry ∷ entries) ∷ [])
 one_input [] one each = absurd (omega arith)
 one_input ([] ∷ inputs) one each = absurd (omega (arith, each.0))
 one_input ((entry ∷ entries) ∷ []) one each = (entry, entries, refl)
 one_input ((entry ∷ entries) ∷ other ∷ inputs) one each = absurd (omega arith)
 
--- and each noted flush
-pub flush_can_be_installed : (core : Core) (state : ModelState) (number : ℕ) (job : Job) → Represents core state → noted_job core number ≡ Some job → IsTrue (is_flush job)
-    → (output : FileEntries) × IsNow core (FlushInstalled number output)
-flush_can_be_installed core state number job stands is flush =
-    let has = noted_outputs number job core.jobs stands.noted.outputs is in
-    let facts = has.flush flush in
+has_one : (entry : Entry) (entries : List Entry) → 1 ≤ length (column entry.key ((entry ∷ entries) ∷ []))
+has_one entry entries = subst (λ b. 1 ≤ length (cond b (entry ∷ of_key entry.key entries) (of_key entry.key entries) ++ [])) (sym (same_self entry.key)) (omega arith)
+
+-- the output of a noted flush can be installed
+pub flush_output_can_be_installed : FlushOutputCanBeInstalled
+flush_output_can_be_installed core state number job entries file stands is flush compacted_is fresh =
+    let facts = (noted_outputs number job core.jobs stands.noted.outputs is).flush flush in
     let one = one_input job.inputs facts.0 facts.1 in
-    flush_has_output core state number job one.0 one.1 stands is flush one.2 facts.2 has.columns
+    subst (λ (o : Option Job). IsSomeAnd o (λ one. IsTrue (is_flush one) × AreOutputs core one (record { file = file; entries = entries } ∷ []))) (sym is) (
+      flush,
+      record {
+        joined = subst (IsCompaction job.inputs job.live job.drops) (sym (append-nil entries)) compacted_is;
+        some = (not_empty job.inputs job.live entries (subst (λ ranges. IsCompaction job.inputs job.live ranges entries) facts.2 compacted_is) one.0.key (subst (λ runs. 1 ≤ length (column one.0.key runs)) (sym one.2) (has_one one.0 one.1)), tt);
+        apart = (tt, tt);
+        fresh = fresh;
+      },
+    )
+
+-- and each noted flush has one
+pub flush_can_be_installed : FlushCanBeInstalled
+flush_can_be_installed core state number job stands is flush =
+    let found = compaction_exists job.inputs job.live job.drops (fall_weakly job.inputs (noted_outputs number job core.jobs stands.noted.outputs is).columns) in
+    let fresh = fresh_from core (found.0 ∷ []) (taken_differ core stands.turn stands.files) in
+    (record { file = fresh.0; entries = found.0 }, found.1, flush_output_can_be_installed core state number job found.0 fresh.0 stands is flush found.1 fresh.1)

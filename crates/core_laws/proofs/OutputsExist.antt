@@ -3,7 +3,7 @@ use Rattle.std.proofs.Common.{◌≡◌, ℕ, ◌<◌, ◌≤◌, Bool, true, fa
 use Rattle.std.specs.Prelude.{fold, flat_map, ◌||◌, ◌==◌, nat_lt, Some}
 use Rattle.std.specs.Ordering.{nat_cmp, ordering_then, is_lt, is_eq, ordering_reverse}
 use Rattle.std.specs.List.{list_any, AllByRecursion as Each}
-use Rattle.std.proofs.lemmas.Bool.{cases_Bool, or_parts, and_from, false≢true, ltb-true}
+use Rattle.std.proofs.lemmas.Bool.{cases_Bool, cases_lt, or_parts, and_from, false≢true, ltb-true}
 use Rattle.std.proofs.lemmas.Cmp.{nat_list_cmp_total}
 use Rattle.st_base.specs.Bytes.{bytes_cmp, below, same}
 use Rattle.st_base.specs.Order.{position_cmp, comes_before, rises_behind, in_order}
@@ -20,7 +20,7 @@ use Rattle.core_model.specs.Compaction.{IsJoined}
 use Rattle.core_model.specs.Drops.{put_key, rising_keys, covers}
 use Rattle.core_model.specs.Pick.{PickedTables, picked, compaction_of}
 use Rattle.core_model.specs.Picture.{FileEntries, FamilyView, Job, Core, lowest_level, walk, above, memories, runs_of, tables_in, level_at}
-use Rattle.core_model.specs.RelationParts.{NumbersFall, IsView, LevelsApart}
+use Rattle.core_model.specs.RelationParts.{FallOrZero, NumbersFall, IsView, LevelsApart}
 use Rattle.core_laws.specs.Claims.{upper_runs, lower_runs}
 use Rattle.core_laws.proofs.Columns.{compacted_each}
 use Rattle.core_laws.proofs.Middle.{column_append, in_append, inputs_are_middle, tables_split, compacted_none}
@@ -241,6 +241,18 @@ column_keys key runs = each_flat_map (λ entry. entry.key ≡ key) (of_key key) 
 abbrev pub ColumnsFall : List (List Entry) → Type 0
 ColumnsFall runs = (key : List ℕ) → Pairwise Weakly (column key runs)
 
+-- columns fall, up to numbers 0
+abbrev pub ColumnsFallOrZero : List (List Entry) → Type 0
+ColumnsFallOrZero runs = (key : List ℕ) → Pairwise FallOrZero (column key runs)
+
+-- so they don't rise
+pub fall_weakly : (runs : List (List Entry)) → ColumnsFallOrZero runs → ColumnsFall runs
+fall_weakly runs falls key = pairs_as FallOrZero Weakly weakly (column key runs) (falls key)
+  where
+    weakly : (one other : Entry) → FallOrZero one other → other.number ≤ one.number
+    weakly one other (inl lt) = omega arith
+    weakly one other (inr (zero_, none)) = omega arith
+
 -- there is a compaction of runs whose columns don't rise
 pub compaction_exists : CompactionExists
 compaction_exists inputs live drops falls = (
@@ -273,22 +285,22 @@ joined_exists runs falls = (
     are : AreBlocks (λ key. column key runs)
     are = record { keys = λ key. column_keys key runs; falls = falls }
 
--- the columns of a running compaction's inputs don't rise
-pub inputs_fall : (low : ℕ) (family : FamilyView) (job : Job) → Compacts low family job → NumbersFall family → ColumnsFall job.inputs
+-- the columns of a running compaction's inputs fall, up to numbers 0
+pub inputs_fall : (low : ℕ) (family : FamilyView) (job : Job) → Compacts low family job → NumbersFall family → ColumnsFallOrZero job.inputs
 inputs_fall low family job compacts falls key =
-    pairs_front Weakly (column key job.inputs) (column key (lower_runs family job))
-    (pairs_back Weakly (column key (upper_runs family job)) (column key job.inputs ++ column key (lower_runs family job))
-    (subst (Pairwise Weakly) (sym whole ∙ inputs_are_middle low family job key compacts)
-    (pairs_join Weakly (column key (above family 6)) (column key (runs_of (level_at family 6))) (weak (column key (above family 6)) (falls key).above) (weak (column key (runs_of (level_at family 6))) (falls key).below)
-    (each_as (λ one. Each (LowerOrZero one) (column key (runs_of (level_at family 6)))) (λ one. Each (Weakly one) (column key (runs_of (level_at family 6))))
-    (λ one each. each_as (LowerOrZero one) (Weakly one) (weakly one) (column key (runs_of (level_at family 6))) each) (column key (above family 6)) (falls key).across))))
+    pairs_front FallOrZero (column key job.inputs) (column key (lower_runs family job))
+    (pairs_back FallOrZero (column key (upper_runs family job)) (column key job.inputs ++ column key (lower_runs family job))
+    (subst (Pairwise FallOrZero) (sym whole ∙ inputs_are_middle low family job key compacts)
+    (pairs_join FallOrZero (column key (above family 6)) (column key (runs_of (level_at family 6))) (weak (column key (above family 6)) (falls key).above) (weak (column key (runs_of (level_at family 6))) (falls key).below)
+    (each_as (λ one. Each (LowerOrZero one) (column key (runs_of (level_at family 6)))) (λ one. Each (FallOrZero one) (column key (runs_of (level_at family 6))))
+    (λ one each. each_as (LowerOrZero one) (FallOrZero one) (weakly one) (column key (runs_of (level_at family 6))) each) (column key (above family 6)) (falls key).across))))
   where
-    weak : (entries : List Entry) → FallStrictly entries → Pairwise Weakly entries
-    weak entries p = pairs_as (λ one other. other.number < one.number) Weakly (λ one other lt. omega arith) entries p
+    weak : (entries : List Entry) → FallStrictly entries → Pairwise FallOrZero entries
+    weak entries p = pairs_as (λ one other. other.number < one.number) FallOrZero (λ one other lt. inl lt) entries p
 
-    weakly : (one other : Entry) → LowerOrZero one other → other.number ≤ one.number
-    weakly one other (inl lt) = omega arith
-    weakly one other (inr none) = omega arith
+    weakly : (one other : Entry) → LowerOrZero one other → FallOrZero one other
+    weakly one other (inl lt) = inl lt
+    weakly one other (inr none) = elim (cases_lt 0 one.number) [ inl some ↦ inl (omega arith) | inr le ↦ inr ((omega arith), none) ]
 
     no_more : (levels : List (List FileEntries)) → length levels ≤ 7 → tables_in (drop 7 levels) ≡ []
     no_more [] le = refl
@@ -317,7 +329,7 @@ inputs_fall low family job compacts falls key =
 -- ---- what is picked can be compacted: a fact of the job alone, which lasts also where its family goes
 
 pub picked_falls : (core : Core) (family : FamilyView) (whole : Bool) (chosen : PickedTables) → IsView family → LevelsApart family → NumbersFall family → Pairwise Differ (tables_in family.levels)
-    → picked core family whole ≡ Some chosen → ColumnsFall (compaction_of core family chosen).inputs
+    → picked core family whole ≡ Some chosen → ColumnsFallOrZero (compaction_of core family chosen).inputs
 picked_falls core family whole chosen view apart falls differ is =
     let good : IsWellPicked core family chosen = picked_good core family whole chosen view apart differ is in
     inputs_fall (lowest_level core) family (compaction_of core family chosen)
@@ -354,10 +366,10 @@ key_falls key (entry ∷ entries) pairs = keep (same entry.key key) refl (key_fa
     keep false is rest = rest
 
 -- a memtable can be flushed
-pub memory_falls : (entries : List Entry) → in_order entries ≡ true → ColumnsFall (entries ∷ [])
+pub memory_falls : (entries : List Entry) → in_order entries ≡ true → ColumnsFallOrZero (entries ∷ [])
 memory_falls entries ordered key =
-    subst (Pairwise Weakly) (sym (append-nil (of_key key entries)))
-    (pairs_as (λ one other. other.number < one.number) Weakly (λ one other lt. omega arith) (of_key key entries)
+    subst (Pairwise FallOrZero) (sym (append-nil (of_key key entries)))
+    (pairs_as (λ one other. other.number < one.number) FallOrZero (λ one other lt. inl lt) (of_key key entries)
     (key_falls key entries (pairs_of_all (λ one other. comes_before one other ≡ true) entries (entries_pairs entries ordered))))
 
 -- why columns must fall: of the numbers 5, 7, 6 with 6 live, 5 and 6 are kept, which no list in entry order has

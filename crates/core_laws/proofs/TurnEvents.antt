@@ -354,8 +354,25 @@ turn_taken_refines core state parts answer after s (inl h) = record {
   stands = accepted_or core state (TurnTaken parts) (turn_refusals core parts) (with_turn core parts) TurnGiven answer after s refl (λ none. taken_stands core state parts s h.0.0 h.0.1 h.0.2 none) h.1;
 }
   where
+    names : List (List ℕ)
+    names = map (λ (part : Part). part.family) parts
+
+    u : List Refusal
+    u = unknown_families (outline core) names
+
+    b : List Refusal
+    b = behind_refusals (outline core) (request_of_parts parts)
+
+    l : List Refusal
+    l = flush_refusals core 1 parts
+
     by : (rs : List Refusal) → turn_refusals core parts ≡ rs → RefusedOr rs core (with_turn core parts) TurnGiven answer after → IsRequestAnswer state core.capacity parts answer
-    by [] e k = subst (IsRequestAnswer state core.capacity parts) (sym k.0) tt
+    by [] e k = subst (IsRequestAnswer state core.capacity parts) (sym k.0) (record {
+      shape = h.0.1.shape;
+      meeting = h.0.1.meeting;
+      families = sym (unknown_alike core state s.same names) ∙ nil_left u b (nil_left (u ++ b) l e);
+      behind = sym (behind_alike core state s.same (request_of_parts parts)) ∙ nil_right u b (nil_left (u ++ b) l e);
+    })
     by (refusal ∷ more) e k = subst (IsRequestAnswer state core.capacity parts) (sym k.0)
         (first_is core state parts s h.0.1 (unknown_families state (map (λ (part : Part). part.family) parts)) (not_enabled state (request_of_parts parts)) (snapshots_live state (request_of_parts parts)) (flush_refusals core 1 parts) refl refl refl refl refusal more
         (sym (λ i. unknown_alike core state s.same (map (λ (part : Part). part.family) parts) i ++ behind_alike core state s.same (request_of_parts parts) i ++ flush_refusals core 1 parts) ∙ e))

@@ -1,15 +1,16 @@
 -- What the laws say beside the claims.
 use Rattle.st_model.specs.State.{new_store}
 use Rattle.core_model.specs.Run.{new_core, EventDoes}
-use Rattle.std.specs.Prelude.{ℕ, Bool, Some, List, ◌≡◌, ◌<◌, ◌^◌, IsFalse, IsTrue}
+use Rattle.std.specs.Prelude.{ℕ, Bool, Some, List, [], ◌∷◌, ◌≡◌, ◌<◌, ◌^◌, IsFalse, IsTrue}
 use Rattle.std.specs.List.{AllByRecursion as Each}
 use Rattle.st_base.specs.Rows.{AreRows}
 use Rattle.st_base.specs.declared.entry.Entry.{Entry}
 use Rattle.core_model.specs.Relation.{Represents}
 use Rattle.core_model.specs.Event.{Event, CoreReply, CompactInstalled, FlushInstalled}
-use Rattle.core_model.specs.Picture.{Core, FileEntries, is_flush, Job, tables_in, FamilyView}
+use Rattle.core_model.specs.Picture.{Core, FileEntries, is_flush, Job, runs_of, tables_in, FamilyView}
+use Rattle.core_model.specs.Compaction.{IsCompaction, cut_tables}
 use Rattle.st_model.specs.declared.state.ModelState.{ModelState}
-use Rattle.core_model.specs.Step.{IsNow, noted_job}
+use Rattle.core_model.specs.Step.{AreFresh, IsNow, noted_job}
 use Rattle.core_model.specs.Column.{Pairwise}
 use Rattle.core_model.specs.RelationParts.{IsSortedRun, LevelsApart, IsView}
 use Rattle.core_model.specs.Pick.{picked, PickedTables}
@@ -24,17 +25,35 @@ abbrev pub EventDoesSomething : Type 0
 EventDoesSomething = (core : Core) (state : ModelState) (event : Event) → Represents core state → IsNow core event
     → (answer : CoreReply) × (after : Core) × EventDoes core event answer after
 
--- each noted compaction has outputs that can be installed
+-- the compaction of a noted job, cut at any target, under fresh file numbers can be installed
+abbrev pub OutputsCanBeInstalled : Type 0
+OutputsCanBeInstalled = (core : Core) (number : ℕ) (job : Job) (target : ℕ) (entries : List Entry)
+    (outputs : List FileEntries) → noted_job core number ≡ Some job → IsFalse (is_flush job)
+    → IsCompaction job.inputs job.live job.drops entries → runs_of outputs ≡ cut_tables target entries
+    → AreFresh core outputs → IsNow core (CompactInstalled number outputs)
+
+-- each noted compaction has such outputs
 abbrev pub CompactionCanBeInstalled : Type 0
 CompactionCanBeInstalled = (core : Core) (state : ModelState) (number : ℕ) (job : Job) (target : ℕ)
     → Represents core state → noted_job core number ≡ Some job → IsFalse (is_flush job)
-    → (outputs : List FileEntries) × IsNow core (CompactInstalled number outputs)
+    → (entries : List Entry) × IsCompaction job.inputs job.live job.drops entries
+    × (outputs : List FileEntries) × (runs_of outputs ≡ cut_tables target entries)
+    × IsNow core (CompactInstalled number outputs)
 
--- each noted flush has an output that can be installed
+-- the compaction of a noted flush, as one table under a fresh file number can be installed
+abbrev pub FlushOutputCanBeInstalled : Type 0
+FlushOutputCanBeInstalled = (core : Core) (state : ModelState) (number : ℕ) (job : Job) (entries : List Entry)
+    (file : ℕ) → Represents core state → noted_job core number ≡ Some job → IsTrue (is_flush job)
+    → IsCompaction job.inputs job.live job.drops entries
+    → AreFresh core (record { file = file; entries = entries } ∷ [])
+    → IsNow core (FlushInstalled number (record { file = file; entries = entries }))
+
+-- each noted flush has such an output
 abbrev pub FlushCanBeInstalled : Type 0
 FlushCanBeInstalled = (core : Core) (state : ModelState) (number : ℕ) (job : Job) → Represents core state
     → noted_job core number ≡ Some job → IsTrue (is_flush job)
-    → (output : FileEntries) × IsNow core (FlushInstalled number output)
+    → (output : FileEntries) × IsCompaction job.inputs job.live job.drops output.entries
+    × IsNow core (FlushInstalled number output)
 
 -- what is picked is in place, near, clear and free
 abbrev pub PickedIsWellPicked : Type 0

@@ -1,6 +1,6 @@
 //! Each law is the contract of a function without a body: it is proved where that contract is.
 ghost use Rattle.core_model.specs.Run.{StepRefines, EveryRunRefines};
-ghost use Rattle.core_laws.specs.Laws.{NewCoreRepresents, EventDoesSomething, CompactionCanBeInstalled, FlushCanBeInstalled, PickedIsWellPicked, RowsAreSorted, SortedAreRows};
+ghost use Rattle.core_laws.specs.Laws.{NewCoreRepresents, EventDoesSomething, CompactionCanBeInstalled, FlushCanBeInstalled, FlushOutputCanBeInstalled, OutputsCanBeInstalled, PickedIsWellPicked, RowsAreSorted, SortedAreRows};
 ghost use Rattle.core_laws.specs.Claims.{PickedRuns, RunsAreClear, CompactionExists, CompactionIsOne, RulePasses, RuleIsFree, NoCauseNoEntry};
 ghost use Rattle.core_laws.specs.Underway.{FileKeepsUnderway, CommitStands};
 ghost use Rattle.core_model.specs.StatePicture.{CoreRepresentsState};
@@ -26,14 +26,18 @@ pub fn event_does_something()
     ensures { EventDoesSomething }
 {}
 
-/// Each noted compaction has outputs that can be installed.
+/// The compaction of a noted job, cut at any target, under fresh file numbers can be installed; each noted compaction
+/// has such outputs.
 pub fn compaction_can_be_installed()
-    ensures { CompactionCanBeInstalled }
+    ensures own { OutputsCanBeInstalled }
+    ensures some { CompactionCanBeInstalled }
 {}
 
-/// Each noted flush has an output that can be installed.
+/// The compaction of a noted flush, as one table under a fresh file number can be installed; each noted flush has such
+/// an output.
 pub fn flush_can_be_installed()
-    ensures { FlushCanBeInstalled }
+    ensures own { FlushOutputCanBeInstalled }
+    ensures some { FlushCanBeInstalled }
 {}
 
 /// What is picked is in place, near, clear and free.
@@ -61,12 +65,12 @@ pub fn compaction_is_one()
     ensures { CompactionIsOne }
 {}
 
-/// Down to the level that the rule gives, no level stops the walk.
+/// Where the rule gives a level above 0, no level down to it stops the walk.
 pub fn rule_passes()
     ensures { RulePasses }
 {}
 
-/// No table at the level that the rule gives meets the file.
+/// Where the rule gives a level above 0, no table there meets the file.
 pub fn rule_is_free()
     ensures { RuleIsFree }
 {}

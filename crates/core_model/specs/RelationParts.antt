@@ -108,12 +108,12 @@ IsNewer newer older = Each (λ one. Each (λ other. other.number < one.number) o
 abbrev pub MemoriesFall : FamilyView → Type 0
 MemoriesFall family = Pairwise IsNewer (memories family)
 
--- what a family keeps by itself: seven levels, each run in entry order, each table
--- and sealed memtable with an entry, memtables one after the other
+-- the table has an entry
 abbrev pub HasEntry : FileEntries → Type 0
 HasEntry table = 1 ≤ length table.entries
 
--- what a family keeps by itself
+-- what a family keeps by itself: seven levels, each run in entry order, each table
+-- and sealed memtable with an entry, memtables one after the other
 pub record IsView (family : FamilyView) : Type 0 where
   pub levels : length family.levels ≡ 7
   pub rows : Each IsSortedRun (walk family)
@@ -210,10 +210,14 @@ pub record KeepsReads (core : Core) (family : FamilyView) (job : Job) : Type 0 w
       (runs_of (tables_in (drop (job.level + 1) family.levels)))) job.drops
   pub flag : IsTrue core.behind → job.drops ≡ []
 
--- what a noted job keeps by itself, also where its family goes: the inputs'
--- columns don't rise; a flush has one memtable, with an entry
+-- the second number is less, or both are 0
+abbrev pub FallOrZero : Entry → Entry → Type 0
+FallOrZero one other = (other.number < one.number) ⊎ ((one.number ≡ 0) × (other.number ≡ 0))
+
+-- what a noted job keeps by itself, also where its family goes: the inputs' columns
+-- fall, up to numbers 0; a flush has one memtable, with an entry
 pub record HasOutputs (job : Job) : Type 0 where
-  pub columns : (key : List ℕ) → Pairwise (λ one other. other.number ≤ one.number) (column key job.inputs)
+  pub columns : (key : List ℕ) → Pairwise FallOrZero (column key job.inputs)
   pub flush : IsTrue (is_flush job) → (length job.inputs ≡ 1) × Each (λ entries. 1 ≤ length entries) job.inputs
       × (job.drops ≡ [])
 

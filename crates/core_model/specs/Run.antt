@@ -1,5 +1,5 @@
 -- Steps and runs of the core, and the claim over every list of events.
-use Rattle.std.specs.Prelude.{ℕ, Bool, true, false, ◌≡◌, ◌<◌, ◌≤◌, IsFalse, ◌⊎◌, length, List, [], ◌∷◌, ◌++◌, if◌then◌else◌, Option, Some, None, IsSomeAnd, ⊤, ◌+◌}
+use Rattle.std.specs.Prelude.{ℕ, Bool, true, false, ◌≡◌, ◌<◌, ◌≤◌, IsFalse, ◌⊎◌, length, List, [], ◌∷◌, ◌++◌, map, if◌then◌else◌, Option, Some, None, IsSomeAnd, ⊤, ◌+◌}
 use Rattle.std.specs.Option.{option_map}
 use Rattle.st_base.specs.Bytes.{default_family}
 use Rattle.st_model.specs.declared.change.Change.{Change}
@@ -8,10 +8,10 @@ use Rattle.st_model.specs.declared.reply.Placed.{Placed}
 use Rattle.st_model.specs.declared.refusal.Refusal.{Refusal}
 use Rattle.st_model.specs.declared.state.ModelState.{ModelState}
 use Rattle.st_model.specs.Apply.{apply}
-use Rattle.st_model.specs.Answer.{write_refusals, snap_refusals, place_spent, make_refusals, drop_refusals}
+use Rattle.st_model.specs.Answer.{write_refusals, snap_refusals, place_spent, make_refusals, drop_refusals, unknown_families}
 use Rattle.st_model.specs.Contents.{contents, opened}
 use Rattle.st_model.specs.Placing.{ArePlaced, last_number_after}
-use Rattle.st_model.specs.Refusals.{MayRefuse, IsFirstRefusal, exact_refusals, sure_refusals, is_full}
+use Rattle.st_model.specs.Refusals.{MayRefuse, IsFirstRefusal, shape_refusals, meeting_refusals, behind_refusals, exact_refusals, sure_refusals, is_full}
 use Rattle.st_model.specs.State.{greatest_number, new_store}
 use Rattle.core_model.specs.Commit.{outline, turn_refusals, commit_refusals, committed, plan, placed_files, files_taken}
 use Rattle.core_model.specs.Compaction.{with_flushed, with_compacted}
@@ -118,9 +118,17 @@ pub record IsReceived (state : ModelState) (capacity : ℕ) (parts : List Part) 
   pub numbers : last_number_after state.last files ≤ greatest_number
   pub placed : ArePlaced state state.last (request_of_parts parts) files
 
+-- a request that got the turn: its own tests pass, its families are there, and files may be taken in behind where it
+-- asks for it
+pub record IsAllowedTurn (state : ModelState) (parts : List Part) : Type 0 where
+  pub shape : shape_refusals (request_of_parts parts) ≡ []
+  pub meeting : meeting_refusals (request_of_parts parts) ≡ []
+  pub families : unknown_families state (map (λ part. part.family) parts) ≡ []
+  pub behind : behind_refusals state (request_of_parts parts) ≡ []
+
 -- an answer of a request at the state: the turn, a refusal that may come, or places that files may get
 abbrev pub IsRequestAnswer : ModelState → ℕ → List Part → CoreReply → Type 0
-IsRequestAnswer state capacity parts TurnGiven = ⊤
+IsRequestAnswer state capacity parts TurnGiven = IsAllowedTurn state parts
 IsRequestAnswer state capacity parts (Refused refusal) =
     MayRefuse state capacity (request_of_parts parts) refusal
     × IsFirstRefusal (exact_refusals state (request_of_parts parts) ++ sure_refusals state (request_of_parts parts))
