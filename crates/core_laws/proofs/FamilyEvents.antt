@@ -77,7 +77,7 @@ stays_sealed f g s = record { id = s.id; levels = s.levels; flush = λ job h. ag
     again : (job : Job) → IsFlush g job → IsFlush (seal g) job
     again job h = record { one = h.one; oldest = oldest_sealed g.mem g.sealed job.inputs h.one h.oldest; files = h.files; drops = h.drops }
 
-core_names : (core : Core) (state : ModelState) → Represents core state → NamesDiffer core.families
+pub core_names : (core : Core) (state : ModelState) → Represents core state → NamesDiffer core.families
 core_names core state s = pairs_beside (λ (k : ModelFamily) (f : FamilyView). f.id ≡ k.id) (λ one other. is_eq (bytes_cmp other.0 one.0) ≡ false) (λ one other. is_eq (bytes_cmp other.0 one.0) ≡ false)
     (λ x x' y y' w w' r. subst₂ (λ a b. is_eq (bytes_cmp a b) ≡ false) w'.0 w.0 r) state.families core.families
     (zip_turned (λ (f : FamilyView) (k : ModelFamily). f.id ≡ k.id) core.families state.families (ids_zip core.families state.families s.same.families)) (names_differ state.families s.sound.names)

@@ -70,3 +70,4 @@ mod CauseNames
 mod RefusedLevel
 mod RefusedNumber
 mod OfState
+pub mod Bounds

@@ -3,6 +3,7 @@ ghost use Rattle.core_model.specs.Run.{StepRefines, EveryRunRefines};
 ghost use Rattle.core_laws.specs.Laws.{NewCoreRepresents, EventDoesSomething, CompactionCanBeInstalled, FlushCanBeInstalled, FlushOutputCanBeInstalled, OutputsCanBeInstalled, PickedIsWellPicked, RowsAreSorted, SortedAreRows};
 ghost use Rattle.core_laws.specs.Claims.{PickedRuns, RunsAreClear, CompactionExists, CompactionIsOne, RulePasses, RuleIsFree, NoCauseNoEntry};
 ghost use Rattle.core_laws.specs.Underway.{FileKeepsUnderway, CommitStands};
+ghost use Rattle.core_model.specs.Bounded.{CrashEndsBounded, NewCoreIsBounded, StepKeepsBounds};
 ghost use Rattle.core_model.specs.StatePicture.{CoreRepresentsState};
 
 /// Each event is a step of the list model: its reply is the model's, and the core after it stands for the model's
@@ -101,4 +102,12 @@ pub fn represents_state()
 pub fn rows_are_sorted_runs()
     ensures sorted { RowsAreSorted }
     ensures rows { SortedAreRows }
+{}
+
+/// Numbers, ids, snapshots and memtables stay within their limits with each event; a new core's are, and so are those of
+/// a core after a crash.
+pub fn step_keeps_bounds()
+    ensures step { StepKeepsBounds }
+    ensures base { NewCoreIsBounded }
+    ensures crash { CrashEndsBounded }
 {}
