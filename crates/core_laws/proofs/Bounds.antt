@@ -1,4 +1,4 @@
--- Each event keeps numbers, ids, snapshots and memtables within their limits.
+-- Each event keeps numbers, ids, snapshots and memtables within their limits, and the capacity.
 use Rattle.std.proofs.Common.{◌≡◌, ℕ, suc, ◌+◌, ◌*◌, ◌<◌, ◌≤◌, Bool, true, false, cond, not, ◌||◌, List, [], ◌∷◌, ◌++◌, length, map, filter, Option, Some, None, unwrap_or, refl, sym, ap, subst, ◌∙◌, inl, inr, arith}
 use Rattle.std.specs.Prelude.{◌==◌, fold, sum_by, max, nat_le, nat_lt, MatchBool, IsSomeAnd}
 use Rattle.std.specs.Option.{option_map}
@@ -21,7 +21,7 @@ use Rattle.st_model.specs.declared.state.ModelState.{ModelState}
 use Rattle.st_model.specs.declared.state.Snapshot.{Snapshot}
 use Rattle.base_laws.proofs.Lists.{append_none, each_any, each_as, each_filter, each_map, none_any}
 use Rattle.base_laws.proofs.Maps.{each_changed, each_set}
-use Rattle.core_model.specs.Bounded.{CrashEndsBounded, HasSmallMemories, IsBounded, IsSmallMemory, NewCoreIsBounded, StepKeepsBounds, sealed_charge}
+use Rattle.core_model.specs.Bounded.{CrashEndsBounded, HasSmallMemories, IsBounded, IsSmallMemory, NewCoreIsBounded, StepKeepsBounds, StepKeepsCapacity, sealed_charge}
 use Rattle.core_model.specs.Commit.{Planned, outline, plan, plan_from, put_file, put_planned, request_files, is_numbered, committed, commit_refusals}
 use Rattle.core_model.specs.Compaction.{with_compacted, with_flushed}
 use Rattle.core_model.specs.Crash.{IsFlushedByCrash, Reopens, rank}
@@ -357,3 +357,47 @@ new_core_is_bounded behind capacity = record {
   live = omega arith;
   small = (((let lt : 0 < sealed_charge = omega arith in lt), tt), tt);
 }
+
+-- ---- the capacity
+
+refused_capacity : (rs : List Refusal) (n : ℕ) (refused done : Core) (reply answer : CoreReply) (after : Core) → RefusedOr rs refused done reply answer after → refused.capacity ≡ n → done.capacity ≡ n → after.capacity ≡ n
+refused_capacity [] n refused done reply answer after k r d = ap (λ (one : Core). one.capacity) k.1 ∙ d
+refused_capacity (refusal ∷ refusals) n refused done reply answer after k r d = ap (λ (one : Core). one.capacity) k.1 ∙ r
+
+notes_capacity : (core : Core) (job : Option Job) (answer : CoreReply) (after : Core) → Notes core job answer after → after.capacity ≡ core.capacity
+notes_capacity core None answer after k = absurd k
+notes_capacity core (Some job) answer after k = ap (λ (one : Core). one.capacity) k.1
+
+installs_capacity : (core : Core) (found : Option Job) (change : Job → FamilyView → FamilyView) (answer : CoreReply) (after : Core) → IsSomeAnd found (λ job. Installs core job (change job) answer after) → after.capacity ≡ core.capacity
+installs_capacity core None change answer after k = absurd k
+installs_capacity core (Some job) change answer after k = ap (λ (one : Core). one.capacity) k.1
+
+planned_capacity : (core : Core) (planned : List Planned) → (fold put_planned core planned).capacity ≡ core.capacity
+planned_capacity core [] = refl
+planned_capacity core (one ∷ more) = planned_capacity (put_planned core one) more
+
+commit_capacity : (core : Core) (found : Option Turn) (answer : CoreReply) (after : Core)
+    → IsSomeAnd found (λ turn. RefusedOr (commit_refusals core turn.parts) (without_turn core) (committed core turn.parts) (Rattle.core_model.specs.Event.Received (core.place + 1) (Rattle.core_model.specs.Commit.placed_files (plan core turn.parts))) answer after)
+    → after.capacity ≡ core.capacity
+commit_capacity core None answer after k = absurd k
+commit_capacity core (Some turn) answer after k =
+    refused_capacity (commit_refusals core turn.parts) core.capacity (without_turn core) (committed core turn.parts) (Rattle.core_model.specs.Event.Received (core.place + 1) (Rattle.core_model.specs.Commit.placed_files (plan core turn.parts))) answer after k
+    refl (planned_capacity core (plan core turn.parts))
+
+pub step_keeps_capacity : StepKeepsCapacity
+step_keeps_capacity core event answer after (inr none) = ap (λ (one : Core). one.capacity) none.2
+step_keeps_capacity core (Write batch) answer after (inl h) = refused_capacity (write_refusals (outline core) core.capacity batch.ops) core.capacity core _ _ answer after h.1 refl refl
+step_keeps_capacity core Snap answer after (inl h) = refused_capacity (snap_refusals (outline core)) core.capacity core _ _ answer after h.1 refl refl
+step_keeps_capacity core (Release id) answer after (inl h) = refused_capacity (place_spent (outline core)) core.capacity core _ _ answer after h.1 refl refl
+step_keeps_capacity core (MakeFamily name) answer after (inl h) = refused_capacity (make_refusals (outline core) name) core.capacity core _ _ answer after h.1 refl refl
+step_keeps_capacity core (DropFamily name) answer after (inl h) = refused_capacity (drop_refusals (outline core) name) core.capacity core _ _ answer after h.1 refl refl
+step_keeps_capacity core (Seal name) answer after (inl h) = ap (λ (one : Core). one.capacity) h.1.1
+step_keeps_capacity core (FlushPicked name) answer after (inl h) = notes_capacity core (flush_job core name) answer after h.1
+step_keeps_capacity core (CompactPicked name whole) answer after (inl h) = notes_capacity core (compact_job core name whole) answer after h.1
+step_keeps_capacity core (FlushInstalled number output) answer after (inl h) = installs_capacity core (noted_job core number) (λ job. with_flushed output) answer after h.1
+step_keeps_capacity core (CompactInstalled number outputs) answer after (inl h) = installs_capacity core (noted_job core number) (λ job. with_compacted job outputs) answer after h.1
+step_keeps_capacity core (JobGivenUp number) answer after (inl h) = ap (λ (one : Core). one.capacity) h.1.1
+step_keeps_capacity core (TurnTaken parts) answer after (inl h) = refused_capacity (Rattle.core_model.specs.Commit.turn_refusals core parts) core.capacity core _ _ answer after h.1 refl refl
+step_keeps_capacity core IngestCommitted answer after (inl h) = commit_capacity core core.turn answer after h.1
+step_keeps_capacity core TurnReturned answer after (inl h) = ap (λ (one : Core). one.capacity) h.1.1
+step_keeps_capacity core (Crashed first) answer after (inl h) = ap (λ (one : Core). one.capacity) h.1.1.core_after

@@ -22,7 +22,7 @@ use Rattle.st_model.specs.Refusals.{sure_cause, exact_refusals, refusals_or, inn
 use Rattle.st_model.specs.Request.{File, Argument, entries_of_file as file_entries, files_from, all_files, asks_behind as is_behind_argument}
 use Rattle.st_model.specs.State.{greatest_number, has_family}
 use Rattle.base_laws.proofs.Ranges.{meet_swaps}
-use Rattle.core_model.specs.Commit.{outline, comes_behind, RequestFile, request_files_of, request_files_after, request_files, next_number, level_choice, plan_file, plan_by_rule, plan_behind, put_planned, plan_from, plan, behind_fit_refusal, number_refusal, level_refusal, is_numbered, plan_charge, placed_in_plan, placed_files, commit_refusals}
+use Rattle.core_model.specs.Commit.{outline, comes_behind, RequestFile, request_files_of, request_files_after, request_files, planned_number, level_choice, plan_file, plan_by_rule, plan_behind, put_planned, plan_from, plan, behind_fit_refusal, number_refusal, level_refusal, is_numbered, plan_charge, placed_in_plan, placed_files, commit_refusals}
 use Rattle.core_model.specs.Event.{request_of_parts, argument_of_part, arguments_after}
 use Rattle.core_model.specs.Relation.{Represents}
 use Rattle.core_model.specs.Picture.{FileEntries, FamilyView, Part, Turn, Core, level_at, table_range, lowest_level}
@@ -88,7 +88,7 @@ same_full core state parts same = ap (nat_lt core.capacity)
 why_counts : (c : Core) (wanted : RequestFile) → cond ((plan_file c wanted).number == 0) c.last (plan_file c wanted).number ≡ c.last + cond (is_some (plan_file c wanted).why) 1 0
 why_counts c wanted = step (comes_behind wanted.part)
   where
-    of_why : (why : Option Why) → cond (next_number c.last why == 0) c.last (next_number c.last why) ≡ c.last + cond (is_some why) 1 0
+    of_why : (why : Option Why) → cond (planned_number c.last why == 0) c.last (planned_number c.last why) ≡ c.last + cond (is_some why) 1 0
     of_why None = omega arith
     of_why (Some why) = cond-false ((c.last + 1) == 0) c.last (c.last + 1) (ne_eqb (c.last + 1) 0 (λ e. absurd (omega arith)))
 

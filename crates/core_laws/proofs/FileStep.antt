@@ -19,7 +19,7 @@ use Rattle.st_model.specs.State.{family_of}
 use Rattle.base_laws.proofs.Maps.{found_each}
 use Rattle.base_laws.proofs.Ranges.{same_range}
 use Rattle.core_model.specs.Column.{Pairwise}
-use Rattle.core_model.specs.Commit.{put_file, renumbered, RequestFile, Planned, comes_behind, family_at, level_choice, next_number, plan_by_rule, plan_behind, put_planned, taken_in_plan}
+use Rattle.core_model.specs.Commit.{put_file, renumbered, RequestFile, Planned, comes_behind, family_at, level_choice, planned_number, plan_by_rule, plan_behind, put_planned, taken_in_plan}
 use Rattle.core_model.specs.Level.{least_within, is_free_level}
 use Rattle.core_model.specs.Picture.{FileEntries, FamilyView, Core, level_at, memories, table_range, put_by_key, all_tables, new_view}
 use Rattle.core_model.specs.RelationParts.{IsView}
@@ -233,7 +233,7 @@ module _ (core : Core) (state : ModelState) (wanted : RequestFile) (rest : List 
       no_cause (Some why) cause e = absurd cc
 
       kind : (why : Option Why) → option_or wanted.sure (level_choice core wanted).cause ≡ why
-          → IsUnderway (put_planned core (with_this (next_number core.last why))) (apply_file state (taken_in_plan (with_this (next_number core.last why)))) rest
+          → IsUnderway (put_planned core (with_this (planned_number core.last why))) (apply_file state (taken_in_plan (with_this (planned_number core.last why)))) rest
       kind None is = early_file not_behind (no_cause wanted.sure (level_choice core wanted).cause is)
       kind (Some why) is = numbered_file not_behind
 

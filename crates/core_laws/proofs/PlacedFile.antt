@@ -26,7 +26,7 @@ use Rattle.base_laws.proofs.Lists.{each_filter, each_join}
 use Rattle.base_laws.proofs.Maps.{found_each}
 use Rattle.base_laws.proofs.Ranges.{range_has_keys, within_parts}
 use Rattle.core_model.specs.Column.{found_at}
-use Rattle.core_model.specs.Commit.{outline, comes_behind, RequestFile, family_at, level_choice, next_number, plan_by_rule, number_refusal, level_refusal, placed_in_plan}
+use Rattle.core_model.specs.Commit.{outline, comes_behind, RequestFile, family_at, level_choice, planned_number, plan_by_rule, number_refusal, level_refusal, placed_in_plan}
 use Rattle.core_model.specs.Event.{argument_of_part}
 use Rattle.core_model.specs.Relation.{Represents}
 use Rattle.core_model.specs.Level.{least_within, level_rule}
@@ -127,15 +127,15 @@ module _ (core : Core) (state : ModelState) (stands : Represents core state) (pa
     same_lowest = ap (λ b. cond b 5 6) stands.same.behind
 
     -- without a number there is no cause, and with one there is
-    zero_why : (why : Option Why) → next_number c.last why ≡ 0 → why ≡ None
+    zero_why : (why : Option Why) → planned_number c.last why ≡ 0 → why ≡ None
     zero_why None e = refl
     zero_why (Some why) e = absurd (omega arith)
 
-    more_why : (why : Option Why) → 0 < next_number c.last why → (one : Why) × (why ≡ Some one)
+    more_why : (why : Option Why) → 0 < planned_number c.last why → (one : Why) × (why ≡ Some one)
     more_why None lt = absurd (omega arith)
     more_why (Some why) lt = (why, refl)
 
-    sure_number : (one cause : Option Why) → is_some one ≡ true → 0 < next_number c.last (option_or one cause)
+    sure_number : (one cause : Option Why) → is_some one ≡ true → 0 < planned_number c.last (option_or one cause)
     sure_number None cause e = absurd (false≢true e)
     sure_number (Some why) cause e = omega arith
 
@@ -193,7 +193,7 @@ module _ (core : Core) (state : ModelState) (stands : Represents core state) (pa
           is_early none.0 (sym same_cause ∙ none.1);
     }
       where
-        caused_of : (one : Option Why) → sure_cause (outline core) (argument_of_part a part) ≡ one → 0 < next_number c.last (option_or one (level_choice c wanted).cause) → (is_some one || is_among_known kept (table_range table)) ≡ true
+        caused_of : (one : Option Why) → sure_cause (outline core) (argument_of_part a part) ≡ one → 0 < planned_number c.last (option_or one (level_choice c wanted).cause) → (is_some one || is_among_known kept (table_range table)) ≡ true
         caused_of (Some why) is lt = refl
         caused_of None is lt = let why = more_why (level_choice c wanted).cause lt in around why.0 is (sym same_cause ∙ why.1)
 

@@ -26,7 +26,7 @@ use Rattle.base_laws.proofs.Lists.{each_join}
 use Rattle.base_laws.proofs.Maps.{found_each}
 use Rattle.base_laws.proofs.Ranges.{both_within_meet}
 use Rattle.core_model.specs.Column.{Pairwise}
-use Rattle.core_model.specs.Commit.{outline, comes_behind, RequestFile, request_files_of, request_files_after, level_choice, next_number, plan_file, plan_by_rule, plan_behind, put_planned, plan_from, number_refusal, level_refusal, placed_in_plan, taken_in_plan, put_table, put_file, renumbered}
+use Rattle.core_model.specs.Commit.{outline, comes_behind, RequestFile, request_files_of, request_files_after, level_choice, planned_number, plan_file, plan_by_rule, plan_behind, put_planned, plan_from, number_refusal, level_refusal, placed_in_plan, taken_in_plan, put_table, put_file, renumbered}
 use Rattle.core_model.specs.Event.{argument_of_part, arguments_after}
 use Rattle.core_model.specs.Relation.{Represents}
 use Rattle.core_model.specs.Level.{least_within}
@@ -48,7 +48,7 @@ use Rattle.core_laws.proofs.PlacedFile.{NoneIn, IsKnownOrOut, IsNextFile, rule_p
 number_kind : (c : Core) (wanted : RequestFile) → ((plan_file c wanted).number ≡ 0) ⊎ ((plan_file c wanted).number ≡ c.last + 1)
 number_kind c wanted = step (comes_behind wanted.part)
   where
-    of_why : (why : Option Why) → (next_number c.last why ≡ 0) ⊎ (next_number c.last why ≡ c.last + 1)
+    of_why : (why : Option Why) → (planned_number c.last why ≡ 0) ⊎ (planned_number c.last why ≡ c.last + 1)
     of_why None = inl refl
     of_why (Some why) = inr refl
 

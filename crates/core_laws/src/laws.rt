@@ -3,7 +3,7 @@ ghost use Rattle.core_model.specs.Run.{StepRefines, EveryRunRefines};
 ghost use Rattle.core_laws.specs.Laws.{NewCoreRepresents, EventDoesSomething, CompactionCanBeInstalled, FlushCanBeInstalled, FlushOutputCanBeInstalled, OutputsCanBeInstalled, PickedIsWellPicked, RowsAreSorted, SortedAreRows};
 ghost use Rattle.core_laws.specs.Claims.{PickedRuns, RunsAreClear, CompactionExists, CompactionIsOne, RulePasses, RuleIsFree, NoCauseNoEntry};
 ghost use Rattle.core_laws.specs.Underway.{FileKeepsUnderway, CommitStands};
-ghost use Rattle.core_model.specs.Bounded.{CrashEndsBounded, NewCoreIsBounded, StepKeepsBounds};
+ghost use Rattle.core_model.specs.Bounded.{CrashEndsBounded, NewCoreIsBounded, StepKeepsBounds, StepKeepsCapacity};
 ghost use Rattle.core_model.specs.StatePicture.{CoreRepresentsState};
 
 /// Each event is a step of the list model: its reply is the model's, and the core after it stands for the model's
@@ -105,9 +105,10 @@ pub fn rows_are_sorted_runs()
 {}
 
 /// Numbers, ids, snapshots and memtables stay within their limits with each event; a new core's are, and so are those of
-/// a core after a crash.
+/// a core after a crash. The capacity stays.
 pub fn step_keeps_bounds()
     ensures step { StepKeepsBounds }
     ensures base { NewCoreIsBounded }
     ensures crash { CrashEndsBounded }
+    ensures capacity { StepKeepsCapacity }
 {}

@@ -1,5 +1,5 @@
--- The sizes of a core: numbers, ids, snapshots and memtables within their limits.
-use Rattle.std.specs.Prelude.{ℕ, Bool, ◌<◌, ◌≤◌, length, List}
+-- The sizes of a core: numbers, ids, snapshots and memtables within their limits; and the capacity, which stays.
+use Rattle.std.specs.Prelude.{ℕ, Bool, ◌≡◌, ◌<◌, ◌≤◌, length, List}
 use Rattle.std.specs.List.{AllByRecursion as Each}
 use Rattle.st_base.specs.declared.entry.Entry.{Entry}
 use Rattle.st_model.specs.State.{greatest_number, last_family_id, most_snapshots}
@@ -45,3 +45,8 @@ NewCoreIsBounded = (behind : Bool) (capacity : ℕ) → IsBounded (new_core behi
 abbrev pub CrashEndsBounded : Type 0
 CrashEndsBounded = (core : Core) (state : ModelState) (first : ℕ) (after : Core) → Represents core state
     → core.last ≤ greatest_number → core.next_family ≤ last_family_id → IsCrashed first core after → IsBounded after
+
+-- the capacity stays with each event
+abbrev pub StepKeepsCapacity : Type 0
+StepKeepsCapacity = (core : Core) (event : Event) (answer : CoreReply) (after : Core)
+    → IsCoreStep core event answer after → after.capacity ≡ core.capacity

@@ -192,13 +192,13 @@ abbrev pub StepRefines : Type 0
 StepRefines = (core : Core) (state : ModelState) (event : Event) (answer : CoreReply) (after : Core)
     → Represents core state → IsCoreStep core event answer after → Refines core state event answer after
 
--- a run beside the model's
+-- a run beside the model's, at one capacity
 abbrev pub RunsBeside : Core → ModelState → List Event → List CoreReply → Core → Type 0
 RunsBeside core state [] [] after = Represents core state × (after ≡ core)
 RunsBeside core state [] (answer ∷ answers) after = ⊥
 RunsBeside core state (event ∷ events) [] after = ⊥
 RunsBeside core state (event ∷ events) (answer ∷ answers) after =
-    (next : Core) × Represents core state × IsCoreStep core event answer next
+    (next : Core) × Represents core state × IsCoreStep core event answer next × (next.capacity ≡ core.capacity)
     × (IsNow core event → IsModelAnswer core state event answer)
     × RunsBeside next (next_state core state event answer) events answers after
 

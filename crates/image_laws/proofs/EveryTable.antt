@@ -23,11 +23,11 @@ use Rattle.manifest_edits.specs.Logs.{LogReading, LogFound, LogOp, records_in, l
 use Rattle.core_model.specs.RelationParts.{IsSortedRun, FitsSizes}
 
 pub table_is_new : TableIsNew
-table_is_new one parts file size before old new entries joined tables sound at = record {
+table_is_new parts file size before old new entries joined tables sound at = record {
   size = size;
   tables = tables;
   sound = sound;
-  entries = λ others also. at ∙ ap {B = FileEntries} (λ l. record { file = file; entries = l }) (one _ entries others joined also);
+  entries = λ others also. at ∙ ap {B = FileEntries} (λ l. record { file = file; entries = l }) (joined_is_one _ entries others joined also);
 }
 
 -- ---- an image with an operation
@@ -132,7 +132,7 @@ reopened = record {
       name = refl;
       id = refl;
       flushed = omega arith;
-      tables = table_is_new joined_is_one other 8 10 (default_family, record { id = 0; mem = entries; sealed = []; levels = [] ∷ [] ∷ [] ∷ [] ∷ [] ∷ [] ∷ [] ∷ [] }) (default_family, record { id = 0; flushed = 0; tables = [] }) (default_family, record { id = 0; flushed = 1; tables = placed ∷ [] }) entries is_joined refl refl refl;
+      tables = table_is_new other 8 10 (default_family, record { id = 0; mem = entries; sealed = []; levels = [] ∷ [] ∷ [] ∷ [] ∷ [] ∷ [] ∷ [] ∷ [] }) (default_family, record { id = 0; flushed = 0; tables = [] }) (default_family, record { id = 0; flushed = 1; tables = placed ∷ [] }) entries is_joined refl refl refl;
     },
     tt,
   );

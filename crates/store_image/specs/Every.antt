@@ -208,10 +208,10 @@ abbrev pub JoinedIsOne : Type 0
 JoinedIsOne = (runs : List (List Entry)) (one other : List Entry) → IsJoined runs one → IsJoined runs other
     → one ≡ other
 
--- so it is enough to name the table that was written
+-- so an opening's new table is one that has the entries of one joined list
 abbrev pub TableIsNew : Type 0
 TableIsNew =
-    JoinedIsOne → (parts : ImageParts) (file size : ℕ) (before : List ℕ × FamilyView) (old new : List ℕ × NamedFamily)
+    (parts : ImageParts) (file size : ℕ) (before : List ℕ × FamilyView) (old new : List ℕ × NamedFamily)
     (entries : List Entry) → IsJoined (memories before.1) entries
     → new.1.tables ≡ flush_placement file size ∷ old.1.tables → IsTrue (is_sound parts (flush_placement file size))
     → table_at parts (flush_placement file size) ≡ record { file = file; entries = entries }
