@@ -7,6 +7,8 @@ use Rattle.std.proofs.lemmas.Bool.{le-leb, le-ltb}
 use Rattle.st_base.specs.Bytes.{same}
 use Rattle.st_base.specs.declared.entry.Entry.{Entry}
 use Rattle.base_laws.proofs.Lists.{each_as, each_filter, each_join}
+use Rattle.core_laws.proofs.LevelLists.{map_append}
+use Rattle.core_laws.proofs.Lists.{filter_join, pairs_as, pairs_filter, pairs_join}
 use Rattle.core_model.specs.Column.{Pairwise, column, of_key, first_at, found_at, Falls}
 use Rattle.core_model.specs.Picture.{FileEntries, FamilyView, runs_of, tables_in, memories, walk, find_mark, above, level_at}
 use Rattle.core_model.specs.RelationParts.{NumbersFall, NumbersWithin}
@@ -14,7 +16,7 @@ use Rattle.store_image.specs.Image.{Ranked, ranked, ranked_levels, all_ranked, i
 use Rattle.manifest_edits.specs.Edits.{Placement}
 use Rattle.store_image.specs.Parts.{ImageParts, image_levels, level_of, table_at, placed_at}
 use Rattle.store_image.specs.Opens.{OpenedImageFamily, image_entries_of}
-use Rattle.image_laws.proofs.Lists.{pairs_filter, pairs_append, pairs_weaker, filter_append, filter_map, flat_append, map_append, column_joined}
+use Rattle.image_laws.proofs.Lists.{filter_map, flat_append, column_joined}
 
 abbrev entry_in : Ranked → Entry
 entry_in one = one.entry
@@ -37,7 +39,7 @@ pub ranked_column : (family : OpenedImageFamily) (key : List ℕ) → map entry_
 ranked_column family key =
     sym (filter_map entry_in (λ (entry : Entry). same entry.key key) (all_ranked family))
     ∙ ap (of_key key) (map_append entry_in (ranked 0 family.counted) (ranked_levels 1 family.levels) ∙ ap (λ l. l ++ map entry_in (ranked_levels 1 family.levels)) (map_ranked 0 family.counted) ∙ ap (λ l. family.counted ++ l) (map_ranked_levels 1 family.levels))
-    ∙ filter_append (λ (entry : Entry). same entry.key key) family.counted (image_entries_of (tables_in family.levels))
+    ∙ filter_join (λ (entry : Entry). same entry.key key) family.counted (image_entries_of (tables_in family.levels))
     ∙ ap (λ l. of_key key family.counted ++ l) (column_joined key (tables_in family.levels))
 
 -- ---- ranks rise
@@ -64,12 +66,12 @@ across rank (entry ∷ entries) others h = (h, across rank entries others h)
 pairs_levels : (rank : ℕ) (levels : List (List FileEntries)) → Pairwise NotAbove (ranked_levels rank levels)
 pairs_levels rank [] = tt
 pairs_levels rank (level ∷ levels) =
-    pairs_append NotAbove (ranked rank (image_entries_of level)) (ranked_levels (rank + 1) levels) (pairs_ranked rank (image_entries_of level)) (pairs_levels (rank + 1) levels)
+    pairs_join NotAbove (ranked rank (image_entries_of level)) (ranked_levels (rank + 1) levels) (pairs_ranked rank (image_entries_of level)) (pairs_levels (rank + 1) levels)
     (across rank (image_entries_of level) (ranked_levels (rank + 1) levels) (each_levels rank (rank + 1) levels (omega arith)))
 
 pub ranks_rise : (family : OpenedImageFamily) → Pairwise NotAbove (all_ranked family)
 ranks_rise family =
-    pairs_append NotAbove (ranked 0 family.counted) (ranked_levels 1 family.levels) (pairs_ranked 0 family.counted) (pairs_levels 1 family.levels)
+    pairs_join NotAbove (ranked 0 family.counted) (ranked_levels 1 family.levels) (pairs_ranked 0 family.counted) (pairs_levels 1 family.levels)
     (across 0 family.counted (ranked_levels 1 family.levels) (each_levels 0 1 family.levels (omega arith)))
 
 -- ---- the first is the best
@@ -131,8 +133,8 @@ mark_is_first family last key falls within =
 -- numbers fall along the walk
 at_most_both : (upper lower : List Entry) → Falls upper lower → Pairwise AtMost (upper ++ lower)
 at_most_both upper lower falls =
-    pairs_append AtMost upper lower (pairs_weaker (λ one other. other.number < one.number) AtMost (λ one other h. omega arith) upper falls.above)
-    (pairs_weaker (λ one other. other.number < one.number) AtMost (λ one other h. omega arith) lower falls.below)
+    pairs_join AtMost upper lower (pairs_as (λ one other. other.number < one.number) AtMost (λ one other h. omega arith) upper falls.above)
+    (pairs_as (λ one other. other.number < one.number) AtMost (λ one other h. omega arith) lower falls.below)
     (each_as (λ one. Each (λ other. (other.number < one.number) ⊎ (other.number ≡ 0)) lower) (λ one. Each (AtMost one) lower)
     (λ one. each_as (λ other. (other.number < one.number) ⊎ (other.number ≡ 0)) (AtMost one) (λ other h. weak one other h) lower) upper falls.across)
   where

@@ -8,11 +8,12 @@ use Rattle.st_base.specs.declared.entry.Entry.{Entry}
 use Rattle.st_base.specs.Range.{meet}
 use Rattle.base_laws.proofs.Keys.{below_not}
 use Rattle.base_laws.proofs.Lists.{any_none, append_one, each_as, each_back, each_front, each_join, filter_none}
+use Rattle.core_laws.proofs.Lists.{filter_join, pairs_across, pairs_as, pairs_back, pairs_front, pairs_join}
 use Rattle.core_model.specs.Column.{Pairwise, column, of_key}
 use Rattle.core_model.specs.Picture.{FileEntries, FamilyView, runs_of, tables_in, table_range, memories, above, level_at}
 use Rattle.core_model.specs.RelationParts.{IsLevel, LevelsApart, NumbersFall, NumbersWithin}
 use Rattle.store_image.specs.Opens.{OpenedImageFamily, image_entries_of, may_follow, entries_fall, unfallen, unfallen_in, upper_tables, lower_tables, meets_other, image_files_meeting, image_files_meeting_in}
-use Rattle.image_laws.proofs.Lists.{pairs_append, pairs_weaker, filter_append, flat_append, column_joined, columns_pairs}
+use Rattle.image_laws.proofs.Lists.{flat_append, column_joined, columns_pairs}
 use Rattle.st_base.proofs.Same.{same_sym}
 use Rattle.image_laws.proofs.Best.{HasColumns, column_append}
 
@@ -84,19 +85,6 @@ run_falls last bottom before (entry ∷ entries) h pairs within =
     (each_join (λ one. Each (Follows bottom one) entries) before (entry ∷ []) (each_as (λ one. Each (Follows bottom one) (entry ∷ entries)) (λ one. Each (Follows bottom one) entries) (λ one e. e.1) before h) (pairs.0, tt))
     pairs.1 within.1
 
--- pairs in two parts
-pairs_front : {X : Type 0} (R : X → X → Type 0) (xs ys : List X) → Pairwise R (xs ++ ys) → Pairwise R xs
-pairs_front R [] ys h = tt
-pairs_front R (x ∷ xs) ys h = (each_front (R x) xs ys h.0, pairs_front R xs ys h.1)
-
-pairs_back : {X : Type 0} (R : X → X → Type 0) (xs ys : List X) → Pairwise R (xs ++ ys) → Pairwise R ys
-pairs_back R [] ys h = h
-pairs_back R (x ∷ xs) ys h = pairs_back R xs ys h.1
-
-pairs_across : {X : Type 0} (R : X → X → Type 0) (xs ys : List X) → Pairwise R (xs ++ ys) → Each (λ x. Each (R x) ys) xs
-pairs_across R [] ys h = tt
-pairs_across R (x ∷ xs) ys h = (each_back (R x) xs ys h.0, pairs_across R xs ys h.1)
-
 tables_fall : (last : ℕ) (bottom : Bool) (before : List Entry) (tables : List FileEntries) → Each (λ one. Each (Follows bottom one) (image_entries_of tables)) before → Pairwise (Follows bottom) (image_entries_of tables)
     → Each (λ entry. entry.number ≤ last) (image_entries_of tables) → unfallen last bottom before tables ≡ []
 tables_fall last bottom before [] h pairs within = refl
@@ -147,7 +135,7 @@ all_entries opened = upper_entries opened ++ image_entries_of (lower_tables open
 
 column_upper : (opened : OpenedImageFamily) (family : FamilyView) (key : List ℕ) → HasColumns opened family → of_key key (upper_entries opened) ≡ column key (above family 6)
 column_upper opened family key has =
-    filter_append (λ (entry : Entry). same entry.key key) opened.counted (image_entries_of (upper_tables opened))
+    filter_join (λ (entry : Entry). same entry.key key) opened.counted (image_entries_of (upper_tables opened))
     ∙ ap (λ l. of_key key opened.counted ++ l) (column_joined key (upper_tables opened))
     ∙ ap (λ l. l ++ column key (runs_of (upper_tables opened))) (sym (has.memory key))
     ∙ ap (λ levels. column key (memories family) ++ column key (runs_of (tables_in (take 6 levels)))) has.levels
@@ -161,17 +149,17 @@ column_lower opened family key has =
 
 upper_pairs : (opened : OpenedImageFamily) (family : FamilyView) → HasColumns opened family → NumbersFall family → Pairwise (Follows false) (upper_entries opened)
 upper_pairs opened family has falls =
-    pairs_weaker (λ one other. same other.key one.key ≡ true → MayStand false one other) (Follows false) (λ one other h. may false one other h) (upper_entries opened)
-    (columns_pairs (MayStand false) (upper_entries opened) (λ key. subst (Pairwise (MayStand false)) (sym (column_upper opened family key has)) (pairs_weaker (λ one other. other.number < one.number) (MayStand false) (λ one other h. inl h) (column key (above family 6)) (falls key).above)))
+    pairs_as (λ one other. same other.key one.key ≡ true → MayStand false one other) (Follows false) (λ one other h. may false one other h) (upper_entries opened)
+    (columns_pairs (MayStand false) (upper_entries opened) (λ key. subst (Pairwise (MayStand false)) (sym (column_upper opened family key has)) (pairs_as (λ one other. other.number < one.number) (MayStand false) (λ one other h. inl h) (column key (above family 6)) (falls key).above)))
 
 all_pairs : (opened : OpenedImageFamily) (family : FamilyView) → HasColumns opened family → NumbersFall family → Pairwise (Follows true) (all_entries opened)
 all_pairs opened family has falls =
-    pairs_weaker (λ one other. same other.key one.key ≡ true → MayStand true one other) (Follows true) (λ one other h. may true one other h) (all_entries opened)
+    pairs_as (λ one other. same other.key one.key ≡ true → MayStand true one other) (Follows true) (λ one other h. may true one other h) (all_entries opened)
     (columns_pairs (MayStand true) (all_entries opened) (λ key. subst (Pairwise (MayStand true))
-    (sym (filter_append (λ (entry : Entry). same entry.key key) (upper_entries opened) (image_entries_of (lower_tables opened)) ∙ ap (λ l. l ++ of_key key (image_entries_of (lower_tables opened))) (column_upper opened family key has) ∙ ap (λ l. column key (above family 6) ++ l) (column_lower opened family key has)))
-    (pairs_append (MayStand true) (column key (above family 6)) (column key (runs_of (level_at family 6)))
-    (pairs_weaker (λ one other. other.number < one.number) (MayStand true) (λ one other h. inl h) (column key (above family 6)) (falls key).above)
-    (pairs_weaker (λ one other. other.number < one.number) (MayStand true) (λ one other h. inl h) (column key (runs_of (level_at family 6))) (falls key).below)
+    (sym (filter_join (λ (entry : Entry). same entry.key key) (upper_entries opened) (image_entries_of (lower_tables opened)) ∙ ap (λ l. l ++ of_key key (image_entries_of (lower_tables opened))) (column_upper opened family key has) ∙ ap (λ l. column key (above family 6) ++ l) (column_lower opened family key has)))
+    (pairs_join (MayStand true) (column key (above family 6)) (column key (runs_of (level_at family 6)))
+    (pairs_as (λ one other. other.number < one.number) (MayStand true) (λ one other h. inl h) (column key (above family 6)) (falls key).above)
+    (pairs_as (λ one other. other.number < one.number) (MayStand true) (λ one other h. inl h) (column key (runs_of (level_at family 6))) (falls key).below)
     (each_as (λ one. Each (λ other. (other.number < one.number) ⊎ (other.number ≡ 0)) (column key (runs_of (level_at family 6)))) (λ one. Each (MayStand true one) (column key (runs_of (level_at family 6))))
     (λ one. each_as (λ other. (other.number < one.number) ⊎ (other.number ≡ 0)) (MayStand true one) (λ other h. bottom one other h) (column key (runs_of (level_at family 6)))) (column key (above family 6)) (falls key).across))))
   where

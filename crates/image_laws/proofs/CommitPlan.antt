@@ -24,7 +24,7 @@ use Rattle.core_model.specs.Picture.{FileEntries, FamilyView, Job, Part, Core, l
 use Rattle.core_model.specs.Request.{IsStagedTable}
 use Rattle.core_model.specs.RelationParts.{files_in_parts}
 use Rattle.core_laws.specs.Underway.{files_left}
-use Rattle.core_laws.proofs.CommitBegins.{all_pieces_tables}
+use Rattle.core_laws.proofs.CommitBegins.{all_pieces_tables, place_piece}
 use Rattle.manifest_edits.specs.Edits.{Placement, Last, NamedFamily, Named, has_id, edited_all, is_last_edit, ends_with_last}
 use Rattle.store_image.specs.Opens.{holds_table, is_table}
 use Rattle.store_image.specs.Parts.{ImageParts, entries_acting, file_entries, has_twice}
@@ -91,13 +91,6 @@ pieces_there core cs a (part ∷ parts) h =
     each_join (λ (wanted : RequestFile). IsThere cs wanted.part) (request_files_of (sure_cause (outline core) (argument_of_part a part)) part a 1 part.files) (request_files_after core (a + 1) parts)
     (part_there cs (sure_cause (outline core) (argument_of_part a part)) part a 1 part.files h.0) (pieces_there core cs (a + 1) parts h.1)
 
-piece_is : (core : Core) (wanted : RequestFile) → (plan_file core wanted).wanted ≡ wanted
-piece_is core wanted = go (comes_behind wanted.part)
-  where
-    go : (b : Bool) → (cond b (plan_behind wanted) (plan_by_rule core wanted)).wanted ≡ wanted
-    go true = refl
-    go false = refl
-
 place_small : (core : Core) (wanted : RequestFile) → (plan_file core wanted).level ≤ 6
 place_small core wanted = go (comes_behind wanted.part)
   where
@@ -108,7 +101,7 @@ place_small core wanted = go (comes_behind wanted.part)
 placed_each : (cs : List (List ℕ × FamilyView)) (P : FileEntries → Type 0) (core : Core) (rest : List RequestFile) → Each (λ wanted. IsThere cs wanted.part) rest → Each P (files_left rest) → Each (IsOf cs P) (plan_from core rest)
 placed_each cs P core [] there h = tt
 placed_each cs P core (wanted ∷ rest) there h = (
-  (record { family = found.0; there = ap (λ (one : RequestFile). value_at cs one.part.family) (piece_is core wanted) ∙ found.1; small = place_small core wanted }, subst (λ (one : RequestFile). P one.table) (sym (piece_is core wanted)) h.0),
+  (record { family = found.0; there = ap (λ (one : RequestFile). value_at cs one.part.family) (place_piece core wanted) ∙ found.1; small = place_small core wanted }, subst (λ (one : RequestFile). P one.table) (sym (place_piece core wanted)) h.0),
   placed_each cs P (put_planned core (plan_file core wanted)) rest there.1 h.1,
 )
   where
@@ -127,12 +120,12 @@ plan_each core P parts there h = placed_each core.families P core (request_files
 
 placed_tables : (P : FileEntries → Type 0) (core : Core) (rest : List RequestFile) → Each P (files_left rest) → Each (λ planned. P planned.wanted.table) (plan_from core rest)
 placed_tables P core [] h = tt
-placed_tables P core (wanted ∷ rest) h = (subst (λ (one : RequestFile). P one.table) (sym (piece_is core wanted)) h.0, placed_tables P (put_planned core (plan_file core wanted)) rest h.1)
+placed_tables P core (wanted ∷ rest) h = (subst (λ (one : RequestFile). P one.table) (sym (place_piece core wanted)) h.0, placed_tables P (put_planned core (plan_file core wanted)) rest h.1)
 
 placed_pairs : (R : FileEntries → FileEntries → Type 0) (core : Core) (rest : List RequestFile) → Pairwise R (files_left rest) → Pairwise (λ one other. R one.wanted.table other.wanted.table) (plan_from core rest)
 placed_pairs R core [] h = tt
 placed_pairs R core (wanted ∷ rest) h = (
-  subst (λ (one : RequestFile). Each (λ other. R one.table other.wanted.table) (plan_from (put_planned core (plan_file core wanted)) rest)) (sym (piece_is core wanted)) (placed_tables (R wanted.table) (put_planned core (plan_file core wanted)) rest h.0),
+  subst (λ (one : RequestFile). Each (λ other. R one.table other.wanted.table) (plan_from (put_planned core (plan_file core wanted)) rest)) (sym (place_piece core wanted)) (placed_tables (R wanted.table) (put_planned core (plan_file core wanted)) rest h.0),
   placed_pairs R (put_planned core (plan_file core wanted)) rest h.1,
 )
 

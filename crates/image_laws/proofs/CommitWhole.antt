@@ -1,7 +1,6 @@
 -- A commit: its group is right, is cut into records that count down, and moves the image from the state before to the state
 -- after the whole request with its last record.
 use Rattle.std.proofs.Common.{◌≡◌, ℕ, Bool, List, [], ◌∷◌, ◌++◌, Some, true, is_some, subst}
-use Rattle.std.specs.Prelude.{IfSome}
 use Rattle.std.specs.List.{AllByRecursion as Each}
 use Rattle.st_base.specs.Map.{value_at}
 use Rattle.st_model.specs.declared.state.ModelState.{ModelState}
@@ -10,9 +9,9 @@ use Rattle.core_model.specs.Column.{Pairwise}
 use Rattle.core_model.specs.Commit.{Planned, plan, committed}
 use Rattle.core_model.specs.Relation.{Represents}
 use Rattle.core_model.specs.Picture.{FamilyView, FileEntries, Core, Turn, all_tables}
-use Rattle.core_model.specs.Request.{IsRequest, IsStagedTable, NamesThere}
-use Rattle.core_model.specs.RelationParts.{files_in_parts, IsTurn}
-use Rattle.core_laws.proofs.CommitBegins.{there_each}
+use Rattle.core_model.specs.Request.{IsStagedTable}
+use Rattle.core_model.specs.RelationParts.{files_in_parts}
+use Rattle.core_laws.proofs.CommitBegins.{there_each, turn_facts}
 use Rattle.manifest_edits.specs.Edits.{GroupRecord, AddsFile}
 use Rattle.store_image.specs.Parts.{ImageParts, log_ops_of}
 use Rattle.store_image.specs.Steps.{HasMore}
@@ -28,11 +27,8 @@ use Rattle.manifest_edits.specs.CallEdits.{commit_edits}
 use Rattle.store_image.specs.Calls.{IsImageOf, files_with}
 use Rattle.store_image.specs.Calls.{file_edits, commit_files, commit_group, commit_named, IsCommittingRequest}
 
-pub turn_of : (core : Core) (state : ModelState) (turn : Turn) → Represents core state → core.turn ≡ Some turn → IsTurn core turn × NamesThere core turn.parts × IsRequest turn.parts
-turn_of core state turn stands e = subst (λ found. IfSome found (λ turn. IsTurn core turn × NamesThere core turn.parts × IsRequest turn.parts)) e stands.turn
-
 pub parts_there : (core : Core) (state : ModelState) (turn : Turn) → Represents core state → core.turn ≡ Some turn → Each (λ part. is_some (value_at core.families part.family) ≡ true) turn.parts
-parts_there core state turn stands e = there_each core turn.parts (turn_of core state turn stands e).1.families
+parts_there core state turn stands e = there_each core turn.parts (turn_facts core state turn stands e).1.families
 
 files_differ : (xs ys : List FileEntries) → Pairwise (λ one other. one.file ≡ other.file → ⊥) (xs ++ ys) → Pairwise (λ one other. one.file ≡ other.file → ⊥) xs
 files_differ [] ys h = tt
@@ -43,7 +39,7 @@ pub commit_is_group : (core : Core) (state : ModelState) (files : EngineFiles) (
 commit_is_group core state files parts at sizes turn is =
     cut_group files.named (commit_named sizes core turn.parts files.named) at (commit_edits (commit_files sizes core turn.parts) (committed core turn.parts).last)
     (commit_right parts (log_ops_of parts files.named.logs) core.last files.named sizes core turn.parts is.tied.holds.families (parts_there core state turn is.stands is.turn_is) is.new
-    (files_differ (files_in_parts turn.parts) (all_tables core) (turn_of core state turn is.stands is.turn_is).0.fresh) (committed core turn.parts).last)
+    (files_differ (files_in_parts turn.parts) (all_tables core) (turn_facts core state turn is.stands is.turn_is).0.fresh) (committed core turn.parts).last)
     (commit_ends (commit_files sizes core turn.parts) (committed core turn.parts).last)
 
 -- with some of the records nothing of the request is there
@@ -81,4 +77,4 @@ commit_opens core state after files parts other flag at sizes turn is stands the
     pair (table ∷ tables) a b = (record { staged = a.0; found = b.0 }, pair tables a.1 b.1)
 
     staged : Each (IsStagedFile other sizes) (files_in_parts turn.parts)
-    staged = pair (files_in_parts turn.parts) (turn_of core state turn is.stands is.turn_is).2.staged there
+    staged = pair (files_in_parts turn.parts) (turn_facts core state turn is.stands is.turn_is).2.staged there

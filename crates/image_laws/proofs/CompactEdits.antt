@@ -7,6 +7,7 @@ use Rattle.st_base.specs.Bytes.{below}
 use Rattle.st_base.specs.Range.{key_at_front}
 use Rattle.st_model.specs.declared.state.ModelState.{ModelState}
 use Rattle.base_laws.proofs.Lists.{each_as, each_filter, each_front, each_join, each_passed}
+use Rattle.core_laws.proofs.Lists.{pairs_filter}
 use Rattle.core_model.specs.Column.{Pairwise}
 use Rattle.core_model.specs.Relation.{Represents}
 use Rattle.core_model.specs.Picture.{FileEntries, FamilyView, Job, Core, lowest_level, jobs_of, is_input, tables_in, put_by_key}
@@ -15,7 +16,6 @@ use Rattle.core_model.specs.Step.{noted_job}
 use Rattle.manifest_edits.specs.Edits.{Placement, Edit, DropTable, Last, NamedFamily, Named, changed_named, has_id, has_table, has_table_in, is_file, edited_all, with_table, is_last_edit, ends_with_last, may_place}
 use Rattle.store_image.specs.Parts.{ImageParts, table_at, placed_at, by_key, level_of, image_levels}
 use Rattle.store_image.specs.Tie.{IsTiedFamily}
-use Rattle.image_laws.proofs.Lists.{pairs_filter}
 use Rattle.image_laws.proofs.RightEdits.{IsNewTable, FilesDiffer, without_tables, tables_added, tables_dropped, dropped_absent, ids_kept, changes_one, last_ends}
 use Rattle.manifest_edits.specs.Logs.{LogOp}
 use Rattle.manifest_edits.specs.CallEdits.{add_table_edit}

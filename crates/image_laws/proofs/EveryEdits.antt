@@ -12,11 +12,11 @@ use Rattle.st_base.specs.Bytes.{bytes_cmp, below}
 use Rattle.st_base.specs.Map.{set_at}
 use Rattle.base_laws.proofs.Keys.{below_trans}
 use Rattle.base_laws.proofs.Lists.{each_as, each_back, each_filter, each_front, each_join}
+use Rattle.core_laws.proofs.Lists.{pairs_across, pairs_back, pairs_filter, pairs_front, pairs_join}
 use Rattle.core_model.specs.Column.{Pairwise}
 use Rattle.manifest_edits.specs.Edits.{Placement, Edit, AddFamily, DropFamily, AddTable, DropTable, Flushed, Last, AddLog, DropLog, NamedFamily, Named, tables_named, has_id, has_table, is_file, changed_named, with_table, without_table, with_flushed_number, is_right, edited, edited_all, may_place}
 use Rattle.store_image.specs.Recover.{IsNamed, EditsKeepNamed}
 use Rattle.image_laws.proofs.Added.{changed_tables, set_tables}
-use Rattle.image_laws.proofs.Lists.{pairs_filter, pairs_append}
 
 -- ---- pairs
 
@@ -39,18 +39,6 @@ all_of_pairs R (x ∷ xs) h zero zero d lt in' = absurd (omega arith)
 all_of_pairs R (x ∷ xs) h zero (suc j) d lt in' = each_get (R x) xs h.0 j d (omega arith)
 all_of_pairs R (x ∷ xs) h (suc i) zero d lt in' = absurd (omega arith)
 all_of_pairs R (x ∷ xs) h (suc i) (suc j) d lt in' = all_of_pairs R xs h.1 i j d (omega arith) (omega arith)
-
-pub pairs_front : {X : Type 0} (R : X → X → Type 0) (xs ys : List X) → Pairwise R (xs ++ ys) → Pairwise R xs
-pairs_front R [] ys h = tt
-pairs_front R (x ∷ xs) ys h = (each_front (R x) xs ys h.0, pairs_front R xs ys h.1)
-
-pub pairs_back : {X : Type 0} (R : X → X → Type 0) (xs ys : List X) → Pairwise R (xs ++ ys) → Pairwise R ys
-pairs_back R [] ys h = h
-pairs_back R (x ∷ xs) ys h = pairs_back R xs ys h.1
-
-pub pairs_across : {X : Type 0} (R : X → X → Type 0) (xs ys : List X) → Pairwise R (xs ++ ys) → Each (λ x. Each (R x) ys) xs
-pairs_across R [] ys h = tt
-pairs_across R (x ∷ xs) ys h = (each_back (R x) xs ys h.0, pairs_across R xs ys h.1)
 
 -- ---- words
 
@@ -114,7 +102,7 @@ set_files (f ∷ fs) name new none h = by (bytes_cmp name f.0) (set_files fs nam
     by : (o : Ordering) → Pairwise OtherFile (all_placed (set_at fs name new)) → Pairwise OtherFile (all_placed (match_ordering o ((name, new) ∷ f ∷ fs) ((f.0, new) ∷ fs) (f ∷ set_at fs name new)))
     by Less rest = subst (λ tables. Pairwise OtherFile (tables ++ all_placed (f ∷ fs))) (sym none) h
     by Equal rest = subst (λ tables. Pairwise OtherFile (tables ++ all_placed fs)) (sym none) (pairs_back OtherFile f.1.tables (all_placed fs) h)
-    by Greater rest = pairs_append OtherFile f.1.tables (all_placed (set_at fs name new)) (pairs_front OtherFile f.1.tables (all_placed fs) h) rest
+    by Greater rest = pairs_join OtherFile f.1.tables (all_placed (set_at fs name new)) (pairs_front OtherFile f.1.tables (all_placed fs) h) rest
         (each_as (λ x. Each (OtherFile x) (all_placed fs)) (λ x. Each (OtherFile x) (all_placed (set_at fs name new))) (λ x k. set_placed (OtherFile x) fs name new none k) f.1.tables (pairs_across OtherFile f.1.tables (all_placed fs) h))
 
 -- ---- families are left out
@@ -132,7 +120,7 @@ filter_files p [] h = tt
 filter_files p (f ∷ fs) h = by (p f) (filter_files p fs (pairs_back OtherFile f.1.tables (all_placed fs) h))
   where
     by : (b : Bool) → Pairwise OtherFile (all_placed (filter p fs)) → Pairwise OtherFile (all_placed (cond b (f ∷ filter p fs) (filter p fs)))
-    by true rest = pairs_append OtherFile f.1.tables (all_placed (filter p fs)) (pairs_front OtherFile f.1.tables (all_placed fs) h) rest
+    by true rest = pairs_join OtherFile f.1.tables (all_placed (filter p fs)) (pairs_front OtherFile f.1.tables (all_placed fs) h) rest
         (each_as (λ x. Each (OtherFile x) (all_placed fs)) (λ x. Each (OtherFile x) (all_placed (filter p fs))) (λ x k. filter_placed (OtherFile x) p fs k) f.1.tables (pairs_across OtherFile f.1.tables (all_placed fs) h))
     by false rest = rest
 
@@ -173,7 +161,7 @@ left_placed P id change out (f ∷ fs) h = each_join P (cond (f.1.id == id) (cha
 left_files : (id : ℕ) (change : NamedFamily → NamedFamily) → LeavesOut change → (families : List NamedPair) → Pairwise OtherFile (all_placed families) → Pairwise OtherFile (all_placed (changed_named id change families))
 left_files id change out [] h = tt
 left_files id change out (f ∷ fs) h =
-    pairs_append OtherFile (cond (f.1.id == id) (change f.1) f.1).tables (all_placed (changed_named id change fs)) (front (f.1.id == id)) (left_files id change out fs (pairs_back OtherFile f.1.tables (all_placed fs) h)) (across (f.1.id == id))
+    pairs_join OtherFile (cond (f.1.id == id) (change f.1) f.1).tables (all_placed (changed_named id change fs)) (front (f.1.id == id)) (left_files id change out fs (pairs_back OtherFile f.1.tables (all_placed fs) h)) (across (f.1.id == id))
   where
     front : (b : Bool) → Pairwise OtherFile (cond b (change f.1) f.1).tables
     front true = out.pairs f.1 (pairs_front OtherFile f.1.tables (all_placed fs) h)
@@ -223,7 +211,7 @@ added_files id placed (f ∷ fs) ids new h = by (f.1.id == id) refl (added_files
   where
     by : (b : Bool) → (f.1.id == id) ≡ b → Pairwise OtherFile (all_placed (changed_named id (with_table placed) fs)) → Pairwise OtherFile ((cond b (with_table placed f.1) f.1).tables ++ all_placed (changed_named id (with_table placed) fs))
     by true e rest = subst (λ l. Pairwise OtherFile (placed ∷ (f.1.tables ++ all_placed l))) (sym (none_changed id (with_table placed) fs (subst (λ n. Each (λ one. n ≡ one.1.id → ⊥) fs) (eqb-true f.1.id id e) ids.0))) (new, h)
-    by false e rest = pairs_append OtherFile f.1.tables (all_placed (changed_named id (with_table placed) fs)) (pairs_front OtherFile f.1.tables (all_placed fs) h) rest
+    by false e rest = pairs_join OtherFile f.1.tables (all_placed (changed_named id (with_table placed) fs)) (pairs_front OtherFile f.1.tables (all_placed fs) h) rest
         (across f.1.tables (each_front (OtherFile placed) f.1.tables (all_placed fs) new) (pairs_across OtherFile f.1.tables (all_placed fs) h))
       where
         across : (xs : List Placement) → Each (OtherFile placed) xs → Each (λ x. Each (OtherFile x) (all_placed fs)) xs → Each (λ x. Each (OtherFile x) (all_placed (changed_named id (with_table placed) fs))) xs

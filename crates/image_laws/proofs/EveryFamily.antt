@@ -13,6 +13,7 @@ use Rattle.st_base.proofs.Ordered.{positions_total, positions_strict, number_dow
 use Rattle.st_base.proofs.Same.{same_true}
 use Rattle.base_laws.proofs.Keys.{at_most_itself, at_most_trans, below_not, comes_before_key, less_of}
 use Rattle.base_laws.proofs.Lists.{each_as, each_filter, each_join, each_map, filter_none}
+use Rattle.core_laws.proofs.Lists.{pairs_filter, pairs_join}
 use Rattle.core_model.specs.Column.{Pairwise, column, of_key}
 use Rattle.core_model.specs.Picture.{FileEntries, runs_of, tables_in, table_range, put_by_key}
 use Rattle.core_model.specs.RelationParts.{IsLevel, HasEntry, IsSortedRun, FitsSizes}
@@ -22,7 +23,6 @@ use Rattle.manifest_edits.specs.Edits.{Placement}
 use Rattle.store_image.specs.Opens.{is_sound, holds_table, is_table}
 use Rattle.store_image.specs.Parts.{ImageParts, TableFile, entries_acting, file_entries, table_at, placed_at, by_key, level_of, image_levels}
 use Rattle.store_image.specs.Recover.{mem_of}
-use Rattle.image_laws.proofs.Lists.{pairs_filter, pairs_append}
 use Rattle.image_laws.proofs.Apart.{behind_end}
 use Rattle.image_laws.proofs.Recovered.{FallsTo, each_mem}
 use Rattle.image_laws.proofs.RecoveredReads.{same_join}
@@ -125,7 +125,7 @@ key_within key last (e ∷ es) h = by (same e.key key) refl (key_within key last
 pub level_falls : (key : List ℕ) (tables : List FileEntries) → IsLevel tables → Each IsSortedRun (runs_of tables) → Pairwise FallsTo (column key (runs_of tables))
 level_falls key [] apart rows = tt
 level_falls key (one ∷ tables) apart rows =
-    pairs_append FallsTo (of_key key one.entries) (column key (runs_of tables)) (run_column_falls key one.entries (in_pairs one.entries rows.0)) (level_falls key tables apart.1 rows.1)
+    pairs_join FallsTo (of_key key one.entries) (column key (runs_of tables)) (run_column_falls key one.entries (in_pairs one.entries rows.0)) (level_falls key tables apart.1 rows.1)
     (each_as (λ (x : Entry). at_most key (table_range one).last ≡ true) (λ x. Each (FallsTo x) (column key (runs_of tables)))
     (λ x within. subst (Each (FallsTo x)) (sym (others_empty key one tables within apart.0 rows.1)) tt) (of_key key one.entries) (key_within key (table_range one).last one.entries (rows_end one.entries rows.0)))
 
@@ -272,7 +272,7 @@ spread parts placed xs (n ∷ ns) h = join xs h.0 (spread parts placed xs ns h.1
 more_pairs : (parts : ImageParts) (placed : List Placement) (ns : List ℕ) → Pairwise (λ n m. n ≡ m → ⊥) ns → Pairwise OtherFile placed → Pairwise FileApart (flat_map (level_of parts placed) ns)
 more_pairs parts placed [] differ h = tt
 more_pairs parts placed (n ∷ ns) differ h =
-    pairs_append FileApart (level_of parts placed n) (flat_map (level_of parts placed) ns) (by_key_pairs (raw parts placed n) (raw_pairs parts placed n h)) (more_pairs parts placed ns differ.1 h)
+    pairs_join FileApart (level_of parts placed n) (flat_map (level_of parts placed) ns) (by_key_pairs (raw parts placed n) (raw_pairs parts placed n h)) (more_pairs parts placed ns differ.1 h)
     (spread parts placed (level_of parts placed n) ns (each_as (λ m. n ≡ m → ⊥) (λ m. Each (λ x. Each (FileApart x) (level_of parts placed m)) (level_of parts placed n))
     (λ m d. by_key_each (λ x. Each (FileApart x) (level_of parts placed m)) (raw parts placed n) (raw_across parts placed n m d h)) ns differ.0))
 
@@ -290,7 +290,7 @@ from_differ (suc k) n = (from_above k (n + 1) n (omega arith), from_differ k (n 
 
 pub levels_pairs : (parts : ImageParts) (placed : List Placement) → Pairwise OtherFile placed → Pairwise FileApart (tables_in (image_levels parts placed))
 levels_pairs parts placed h =
-    pairs_append FileApart (raw parts placed 0) (flat_map (level_of parts placed) (1 ∷ 2 ∷ 3 ∷ 4 ∷ 5 ∷ 6 ∷ [])) (raw_pairs parts placed 0 h) (more_pairs parts placed (1 ∷ 2 ∷ 3 ∷ 4 ∷ 5 ∷ 6 ∷ []) (from_differ 6 1) h)
+    pairs_join FileApart (raw parts placed 0) (flat_map (level_of parts placed) (1 ∷ 2 ∷ 3 ∷ 4 ∷ 5 ∷ 6 ∷ [])) (raw_pairs parts placed 0 h) (more_pairs parts placed (1 ∷ 2 ∷ 3 ∷ 4 ∷ 5 ∷ 6 ∷ []) (from_differ 6 1) h)
     (spread parts placed (raw parts placed 0) (1 ∷ 2 ∷ 3 ∷ 4 ∷ 5 ∷ 6 ∷ []) (each_as (λ m. 0 ≡ m → ⊥) (λ m. Each (λ x. Each (FileApart x) (level_of parts placed m)) (raw parts placed 0)) (λ m d. raw_across parts placed 0 m d h) (1 ∷ 2 ∷ 3 ∷ 4 ∷ 5 ∷ 6 ∷ []) (from_above 6 1 0 (omega arith))))
 
 -- ---- a sound table has an entry

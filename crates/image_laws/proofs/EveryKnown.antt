@@ -14,6 +14,7 @@ use Rattle.st_model.specs.Contents.{opened, opened_family, opened_families}
 use Rattle.st_base.specs.Range.{keys_of}
 use Rattle.st_model.specs.Sound.{KeysRise}
 use Rattle.base_laws.proofs.Lists.{each_as}
+use Rattle.core_laws.proofs.LevelLists.{map_append}
 use Rattle.core_model.specs.Column.{Pairwise}
 use Rattle.core_model.specs.Crash.{known_keys}
 use Rattle.core_model.specs.Relation.{Represents}
@@ -23,7 +24,6 @@ use Rattle.core_model.specs.Step.{put_in_memory}
 use Rattle.store_image.specs.Image.{image_known_keys, image_keys}
 use Rattle.store_image.specs.Opens.{OpenedImageFamily, OpenedImage, image_entries_of}
 use Rattle.store_image.specs.Recover.{mem_of, recovered_view, recovered_core}
-use Rattle.image_laws.proofs.Lists.{map_append}
 use Rattle.image_laws.proofs.EveryEdits.{pairs_of_all, all_of_pairs}
 
 -- the same keys, in any order

@@ -8,6 +8,7 @@ use Rattle.st_base.specs.Bytes.{below, bytes_cmp}
 use Rattle.st_base.specs.Map.{value_at}
 use Rattle.st_base.specs.declared.entry.Entry.{Entry}
 use Rattle.base_laws.proofs.Lists.{append_none, each_as, each_back, each_filter, each_front, each_join, each_map}
+use Rattle.core_laws.proofs.Lists.{pairs_across, pairs_back, pairs_front, pairs_join}
 use Rattle.core_model.specs.Column.{Pairwise}
 use Rattle.core_model.specs.Picture.{FamilyView, Core, FileEntries, runs_of, tables_in, find_mark, lowest_level}
 use Rattle.core_model.specs.RelationParts.{NumbersFall, NumbersWithin, LevelsApart, HasRanges, HasKnownKeys, HasWritten, IsView, JobsRun, KeepsReads, AreNoted, ids_of, model_ids, IsSortedRun}
@@ -22,10 +23,9 @@ use Rattle.store_image.specs.Image.{image_contents_of_family}
 use Rattle.store_image.specs.Opens.{OpenedImageFamily, OpenedImage, image_opened, image_family, image_damage, unsound, least_damage, is_sound, image_files_meeting_in, unfallen_in, last_op, unrisen, image_log_damage}
 use Rattle.store_image.specs.Parts.{ImageParts, log_ops_of, counts_for, counted_entries, table_at, image_levels}
 use Rattle.store_image.specs.Recover.{recovered_view, recovered_core, recovered_family, recovered_state, greatest_id, HasRows, HasOps, IsNamed, RecoveredStands}
-use Rattle.image_laws.proofs.Lists.{pairs_append}
 use Rattle.image_laws.proofs.Recovered.{counted_falls, no_first, least_none, all_sound, logs_rise}
 use Rattle.image_laws.proofs.RecoveredReads.{each_reverse}
-use Rattle.image_laws.proofs.EveryEdits.{NamedPair, OtherFile, each_get, pairs_of_all, all_of_pairs, pairs_front, pairs_back, pairs_across}
+use Rattle.image_laws.proofs.EveryEdits.{NamedPair, OtherFile, each_get, pairs_of_all, all_of_pairs}
 use Rattle.image_laws.proofs.EveryFamily.{FileApart, levels_each, levels_pairs}
 use Rattle.image_laws.proofs.EveryStands.{StandsFor, IsWholeFamily, family_stands, family_contents}
 use Rattle.manifest_edits.specs.Logs.{LogOp, log_op_entry}
@@ -173,7 +173,7 @@ views_each P parts ops (f ∷ ns) h =
 views_files : (parts : ImageParts) (ops : List LogOp) (ns : List NamedPair) → Pairwise OtherFile (flat_map (λ family. family.1.tables) ns) → Pairwise FileApart (flat_map (λ named. tables_in named.1.levels) (views_of parts ops ns))
 views_files parts ops [] h = tt
 views_files parts ops (f ∷ ns) h =
-    pairs_append FileApart (tables_in (image_levels parts f.1.tables)) (flat_map (λ named. tables_in named.1.levels) (views_of parts ops ns))
+    pairs_join FileApart (tables_in (image_levels parts f.1.tables)) (flat_map (λ named. tables_in named.1.levels) (views_of parts ops ns))
     (levels_pairs parts f.1.tables (pairs_front OtherFile f.1.tables (flat_map (λ family. family.1.tables) ns) h))
     (views_files parts ops ns (pairs_back OtherFile f.1.tables (flat_map (λ family. family.1.tables) ns) h))
     (levels_each (λ x. Each (FileApart x) (flat_map (λ named. tables_in named.1.levels) (views_of parts ops ns))) parts f.1.tables

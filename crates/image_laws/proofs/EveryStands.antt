@@ -13,6 +13,7 @@ use Rattle.st_base.specs.declared.entry.Mark.{Mark}
 use Rattle.st_base.specs.declared.entry.KeyRange.{KeyRange}
 use Rattle.st_base.proofs.Same.{same_self}
 use Rattle.base_laws.proofs.Lists.{any_left, any_right, append_none, each_as, each_back, each_front, each_join, each_map, map_each}
+use Rattle.core_laws.proofs.Lists.{pairs_as}
 use Rattle.core_model.specs.Column.{Pairwise, of_key}
 use Rattle.core_model.specs.Crash.{newest_of}
 use Rattle.core_model.specs.Picture.{FamilyView, FileEntries, runs_of, tables_in, table_range, find_mark}
@@ -27,7 +28,7 @@ use Rattle.store_image.specs.Image.{image_contents_of_family, image_keys, image_
 use Rattle.store_image.specs.Opens.{OpenedImageFamily, image_family, is_sound, image_files_meeting, image_files_meeting_in, unfallen_in, image_entries_of, upper_tables}
 use Rattle.store_image.specs.Parts.{ImageParts, counted_entries, table_at, placed_at, level_of, image_levels}
 use Rattle.store_image.specs.Recover.{mem_of, recovered_view, recovered_family}
-use Rattle.image_laws.proofs.Lists.{flat_append, pairs_weaker}
+use Rattle.image_laws.proofs.Lists.{flat_append}
 use Rattle.image_laws.proofs.Again.{fold_ranges}
 use Rattle.image_laws.proofs.Apart.{opened_level, level_rises, range_ordered}
 use Rattle.image_laws.proofs.Best.{HasColumns, mark_found, levels_seven, levels_lower}
@@ -133,7 +134,7 @@ levels_stand : (parts : ImageParts) (placed : List Placement) (ns : List ℕ) �
 levels_stand parts placed [] files rows none = tt
 levels_stand parts placed (n ∷ ns) files rows none =
     let split = append_none (image_files_meeting (level_of parts placed n)) (flat_map image_files_meeting (map (level_of parts placed) ns)) none in (
-      opened_level (map (table_at parts) (placed_at n placed)) (pairs_weaker FileApart (λ one other. (other.file == one.file) ≡ false) file_differs (map (table_at parts) (placed_at n placed)) (raw_pairs parts placed n files))
+      opened_level (map (table_at parts) (placed_at n placed)) (pairs_as FileApart (λ one other. (other.file == one.file) ≡ false) file_differs (map (table_at parts) (placed_at n placed)) (raw_pairs parts placed n files))
           (right_tables (level_of parts placed n) (each_front HasRow (level_of parts placed n) (flat_map (level_of parts placed) ns) rows)) split.0,
       levels_stand parts placed ns files (each_back HasRow (level_of parts placed n) (flat_map (level_of parts placed) ns) rows) split.1,
     )

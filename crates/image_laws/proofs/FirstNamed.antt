@@ -10,10 +10,11 @@ use Rattle.std.proofs.lemmas.Cmp.{nat_list_cmp_total}
 use Rattle.std.proofs.lemmas.List.{reverse-append}
 use Rattle.st_base.specs.Bytes.{below, bytes_cmp}
 use Rattle.base_laws.proofs.Lists.{each_as, each_back, each_front, each_join}
+use Rattle.core_laws.proofs.Lists.{pairs_back, pairs_front, pairs_join}
 use Rattle.core_model.specs.Column.{Pairwise}
 use Rattle.manifest_edits.specs.Edits.{Placement, NamedFamily, Named, has_id, is_file, may_place}
 use Rattle.store_image.specs.Recover.{IsNamed}
-use Rattle.image_laws.proofs.Lists.{pairs_append, flat_append}
+use Rattle.image_laws.proofs.Lists.{flat_append}
 use Rattle.image_laws.proofs.RightEdits.{differ as differ_turned}
 use Rattle.image_laws.proofs.StandsNames.{pairs_of_places}
 use Rattle.store_image.specs.Calls.{AreNextFamilies}
@@ -32,20 +33,12 @@ pairs_turned : {X : Type 0} (R : X → X → Type 0) → ((x y : X) → R x y �
 pairs_turned R swap [] h = tt
 pairs_turned R swap (x ∷ xs) h =
     subst (Pairwise R) (sym (reverse-append (x ∷ []) xs))
-    (pairs_append R (reverse xs) (x ∷ []) (pairs_turned R swap xs h.1) (tt, tt) (one_each R x (reverse xs) (each_turned (λ y. R y x) xs (each_as (R x) (λ y. R y x) (swap x) xs h.0))))
+    (pairs_join R (reverse xs) (x ∷ []) (pairs_turned R swap xs h.1) (tt, tt) (one_each R x (reverse xs) (each_turned (λ y. R y x) xs (each_as (R x) (λ y. R y x) (swap x) xs h.0))))
 
 -- what is in front of one, beside it
 before_one : {X : Type 0} (R : X → X → Type 0) (done : List X) (x : X) (more : List X) → Pairwise R (done ++ x ∷ more) → Each (λ y. R y x) done
 before_one R [] x more h = tt
 before_one R (y ∷ done) x more h = ((each_back (R y) done (x ∷ more) h.0).0, before_one R done x more h.1)
-
-back_pairs : {X : Type 0} (R : X → X → Type 0) (xs ys : List X) → Pairwise R (xs ++ ys) → Pairwise R ys
-back_pairs R [] ys h = h
-back_pairs R (x ∷ xs) ys h = back_pairs R xs ys h.1
-
-front_pairs : {X : Type 0} (R : X → X → Type 0) (xs ys : List X) → Pairwise R (xs ++ ys) → Pairwise R xs
-front_pairs R [] ys h = tt
-front_pairs R (x ∷ xs) ys h = (each_front (R x) xs ys h.0, front_pairs R xs ys h.1)
 
 -- each of the second beside all of the first
 across : {X : Type 0} (R : X → X → Type 0) (xs ys : List X) → Pairwise R (xs ++ ys) → Each (λ y. Each (λ x. R x y) xs) ys
@@ -107,7 +100,7 @@ next_all done (family ∷ families) files ids names above = (
         (news family.1.tables (each_front (λ y. Each (λ (x : Placement). x.file ≡ y.file → ⊥) (tables_in done)) family.1.tables (tables_in families) (across (λ (one other : Placement). one.file ≡ other.file → ⊥) (tables_in done) (family.1.tables ++ tables_in families) split))
         (each_front IsAbove family.1.tables (tables_in families) above));
     differ = pairs_turned (λ (one other : Placement). (one.file == other.file) ≡ false) (λ one other e. differ_turned one.file other.file e) family.1.tables
-        (weaker family.1.tables (front_pairs (λ (one other : Placement). one.file ≡ other.file → ⊥) family.1.tables (tables_in families) (back_pairs (λ (one other : Placement). one.file ≡ other.file → ⊥) (tables_in done) (family.1.tables ++ tables_in families) split)));
+        (weaker family.1.tables (pairs_front (λ (one other : Placement). one.file ≡ other.file → ⊥) family.1.tables (tables_in families) (pairs_back (λ (one other : Placement). one.file ≡ other.file → ⊥) (tables_in done) (family.1.tables ++ tables_in families) split)));
   },
   next_all (done ++ family ∷ []) families
       (subst (λ all. Pairwise (λ (one other : Placement). one.file ≡ other.file → ⊥) (tables_in all)) (sym (assoc done (family ∷ []) families)) files)

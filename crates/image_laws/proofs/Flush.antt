@@ -8,6 +8,7 @@ use Rattle.st_base.specs.Bytes.{same}
 use Rattle.st_base.proofs.Same.{same_self}
 use Rattle.st_base.specs.declared.entry.Entry.{Entry}
 use Rattle.base_laws.proofs.Lists.{each_as, each_back, each_filter, each_front, each_join, filter_none, filter_whole}
+use Rattle.core_laws.proofs.Lists.{filter_join}
 use Rattle.core_model.specs.Column.{Pairwise, column, of_key}
 use Rattle.core_model.specs.Compaction.{without_last, with_flushed as flushed_view}
 use Rattle.core_model.specs.Picture.{FileEntries, FamilyView, Core, Job, level_at, runs_of, tables_in}
@@ -18,7 +19,7 @@ use Rattle.store_image.specs.Parts.{ImageParts, log_ops_of, counts_for, counted_
 use Rattle.store_image.specs.Opens.{is_sound, last_op}
 use Rattle.store_image.specs.Steps.{greatest_of, with_flush, without_logs, flushed_named}
 use Rattle.store_image.specs.Tie.{HoldsNamed, IsTiedFamily}
-use Rattle.image_laws.proofs.Lists.{filter_append, filter_map}
+use Rattle.image_laws.proofs.Lists.{filter_map}
 use Rattle.image_laws.proofs.Best.{column_append}
 use Rattle.image_laws.proofs.Logs.{logs_stay, counts_stay, each_stays}
 use Rattle.manifest_edits.specs.Logs.{LogOp, log_op_entry, records_in}
@@ -39,7 +40,7 @@ filter_reverse : {X : Type 0} (p : X → Bool) (xs : List X) → filter p (rever
 filter_reverse p [] = refl
 filter_reverse p (x ∷ xs) =
     ap (filter p) (reverse-append (x ∷ []) xs)
-    ∙ filter_append p (reverse xs) (x ∷ []) ∙ ap (λ l. l ++ cond (p x) (x ∷ []) []) (filter_reverse p xs) ∙ go (p x)
+    ∙ filter_join p (reverse xs) (x ∷ []) ∙ ap (λ l. l ++ cond (p x) (x ∷ []) []) (filter_reverse p xs) ∙ go (p x)
   where
     go : (b : Bool) → reverse (filter p xs) ++ cond b (x ∷ []) [] ≡ reverse (cond b (x ∷ filter p xs) (filter p xs))
     go true = sym (reverse-append (x ∷ []) (filter p xs))
@@ -94,7 +95,7 @@ column_newer : (n : ℕ) (key : List ℕ) (upper : List (List Entry)) (oldest : 
     → filter (is_newer n) (column key (upper ++ oldest ∷ [])) ≡ column key upper
 column_newer n key upper oldest above below =
     ap (filter (is_newer n)) (column_append key upper (oldest ∷ []))
-    ∙ filter_append (is_newer n) (column key upper) (of_key key oldest ++ [])
+    ∙ filter_join (is_newer n) (column key upper) (of_key key oldest ++ [])
     ∙ ap (λ l. l ++ filter (is_newer n) (of_key key oldest ++ [])) (filter_whole (is_newer n) (column key upper) (each_as (λ (entry : Entry). n < entry.number) (λ entry. is_newer n entry ≡ true) (λ entry h. lt-ltb n entry.number h) (column key upper) (each_of_column upper above)))
     ∙ ap (λ l. column key upper ++ filter (is_newer n) l) (append-nil (of_key key oldest))
     ∙ ap (λ l. column key upper ++ l) (filter_none (is_newer n) (of_key key oldest) (each_as (λ (entry : Entry). entry.number ≤ n) (λ entry. is_newer n entry ≡ false) (λ entry h. le-ltb n entry.number h) (of_key key oldest) (each_filter (λ (entry : Entry). entry.number ≤ n) (λ (entry : Entry). same entry.key key) oldest below)))

@@ -7,6 +7,7 @@ use Rattle.std.proofs.lemmas.Bool.{eqb-true}
 use Rattle.st_base.specs.declared.entry.Entry.{Entry}
 use Rattle.st_model.specs.declared.state.ModelState.{ModelState}
 use Rattle.base_laws.proofs.Lists.{each_back, each_filter}
+use Rattle.core_laws.proofs.Lists.{filter_join}
 use Rattle.core_model.specs.Compaction.{without_last, with_flushed as flushed_view}
 use Rattle.core_model.specs.Relation.{Represents}
 use Rattle.core_model.specs.Picture.{FileEntries, FamilyView, Job, Core, lowest_level}
@@ -23,7 +24,6 @@ use Rattle.manifest_edits.proofs.Cut.{cut_group}
 use Rattle.image_laws.proofs.Flush.{Flushes, flush_holds}
 use Rattle.image_laws.proofs.Frame.{holds_frame}
 use Rattle.image_laws.proofs.Added.{apart_after, older_apart}
-use Rattle.image_laws.proofs.Lists.{filter_append}
 use Rattle.image_laws.proofs.RightEdits.{one_right, ids_kept, changes_one, logs_dropped, last_ends}
 use Rattle.image_laws.proofs.StepOpens.{step_begun, step_written}
 use Rattle.manifest_edits.specs.Logs.{records_in}
@@ -105,7 +105,7 @@ pub flush_opens : (core : Core) (state : ModelState) (files : EngineFiles) (part
 flush_opens core state files parts other flag at sizes number job output gone is stands found has =
     step_written core (installed core job (flushed_view output)) state files (flush_files sizes core job output gone files) parts other flag (flush_group at sizes core job output gone) stands is.tied refl
     (flush_is_group core state files parts at sizes number job output gone is) has refl
-    (ap (without_logs (is_among_files gone)) is.tied.log ∙ filter_append (λ file. not (is_among_files gone file)) files.older_logs (files.log ∷ []) ∙ ap (λ b. without_logs (is_among_files gone) files.older_logs ++ cond (not b) (files.log ∷ []) []) is.stays)
+    (ap (without_logs (is_among_files gone)) is.tied.log ∙ filter_join (λ file. not (is_among_files gone file)) files.older_logs (files.log ∷ []) ∙ ap (λ b. without_logs (is_among_files gone) files.older_logs ++ cond (not b) (files.log ∷ []) []) is.stays)
     (apart_after files (flush_named sizes core job output gone files.named) (without_logs (is_among_files gone) files.older_logs) at (flush_edits job.family (flush_placement output.file (sizes output.file)) (greatest_of (flushed_memory job)) gone core.last)
     (flush_is_group core state files parts at sizes number job output gone is) (is.unwritten, (tt, drops_add (IsUnwritten files) gone core.last))
     (each_filter (λ file. file ≢ files.log) (λ file. not (is_among_files gone file)) files.older_logs (older_apart files is.tied.apart)) is.tied.apart)

@@ -5,11 +5,11 @@ use Rattle.std.specs.Option.{option_map, option_or}
 use Rattle.std.specs.List.{AllByRecursion as Each}
 use Rattle.std.proofs.lemmas.Bool.{lt-ltb, ltb-true}
 use Rattle.base_laws.proofs.Lists.{each_back, each_front, each_join}
+use Rattle.core_laws.proofs.Lists.{filter_join}
 use Rattle.manifest_edits.specs.Edits.{NamedFamily}
 use Rattle.store_image.specs.Parts.{ImageParts, log_ops_of, counts_for}
 use Rattle.store_image.specs.Opens.{ImageDamage, damage_at, last_op, unrisen, image_log_damage, read_damage}
 use Rattle.store_image.specs.Steps.{without_logs}
-use Rattle.image_laws.proofs.Lists.{filter_append}
 use Rattle.manifest_edits.specs.Logs.{LogReading, LogAbsent, LogFound, LogOp, records_in}
 
 -- ---- one log
@@ -101,11 +101,11 @@ counts_stay parts gone family (file ∷ logs) h = step (gone file) refl (counts_
     step : (b : Bool) → gone file ≡ b → filter (counts_for family) (log_ops_of parts (without_logs gone logs)) ≡ filter (counts_for family) (log_ops_of parts logs)
         → filter (counts_for family) (log_ops_of parts (cond (not b) (file ∷ without_logs gone logs) (without_logs gone logs))) ≡ filter (counts_for family) (log_ops_of parts (file ∷ logs))
     step true is rest =
-        rest ∙ sym (filter_append (counts_for family) (records_in (parts.log file)) (log_ops_of parts logs) ∙ ap (λ l. l ++ filter (counts_for family) (log_ops_of parts logs)) (h.0 is))
+        rest ∙ sym (filter_join (counts_for family) (records_in (parts.log file)) (log_ops_of parts logs) ∙ ap (λ l. l ++ filter (counts_for family) (log_ops_of parts logs)) (h.0 is))
     step false is rest =
-        filter_append (counts_for family) (records_in (parts.log file)) (log_ops_of parts (without_logs gone logs))
+        filter_join (counts_for family) (records_in (parts.log file)) (log_ops_of parts (without_logs gone logs))
         ∙ ap (λ l. filter (counts_for family) (records_in (parts.log file)) ++ l) rest
-        ∙ sym (filter_append (counts_for family) (records_in (parts.log file)) (log_ops_of parts logs))
+        ∙ sym (filter_join (counts_for family) (records_in (parts.log file)) (log_ops_of parts logs))
 
 -- what holds of each operation holds of each that stays
 pub each_stays : (P : LogOp → Type 0) (parts : ImageParts) (gone : ℕ → Bool) (logs : List ℕ) → Each P (log_ops_of parts logs) → Each P (log_ops_of parts (without_logs gone logs))

@@ -8,6 +8,8 @@ use Rattle.std.proofs.lemmas.List.{reverse-append}
 use Rattle.st_base.specs.Bytes.{same}
 use Rattle.st_base.specs.declared.entry.Entry.{Entry}
 use Rattle.base_laws.proofs.Lists.{each_as, each_back, each_front, each_join}
+use Rattle.core_laws.proofs.Lists.{pairs_filter, pairs_join}
+use Rattle.core_laws.proofs.WrittenFamily.{put_each}
 use Rattle.core_model.specs.Column.{Pairwise, of_key}
 use Rattle.core_model.specs.Picture.{FamilyView}
 use Rattle.manifest_edits.specs.Edits.{Placement, NamedFamily, Named, tables_named}
@@ -15,9 +17,8 @@ use Rattle.store_image.specs.Opens.{ImageDamage, OpenedImageFamily, image_opened
 use Rattle.store_image.specs.Parts.{ImageParts, log_ops_of, counts_for, counted_entries}
 use Rattle.store_image.specs.Recover.{mem_of, recovered_view, recovered_core}
 use Rattle.store_image.specs.Tie.{IsTiedFamily, IsReadByOpening}
-use Rattle.image_laws.proofs.Lists.{pairs_filter, pairs_append}
 use Rattle.image_laws.proofs.Logs.{whole_of}
-use Rattle.image_laws.proofs.Write.{put_column, each_put}
+use Rattle.image_laws.proofs.Write.{put_column}
 use Rattle.manifest_edits.specs.Logs.{LogOp, log_op_entry, records_in}
 
 -- ---- numbers of operations rise, and those of counted entries fall
@@ -59,7 +60,7 @@ abbrev pub FallsTo : Entry → Entry → Type 0
 FallsTo one other = other.number < one.number
 
 falls_last : (xs : List Entry) (y : Entry) → Pairwise FallsTo xs → Each (λ x. y.number < x.number) xs → Pairwise FallsTo (xs ++ y ∷ [])
-falls_last xs y falls above = pairs_append FallsTo xs (y ∷ []) falls (tt, tt) (each_as (λ (x : Entry). y.number < x.number) (λ x. Each (FallsTo x) (y ∷ [])) (λ x less. (less, tt)) xs above)
+falls_last xs y falls above = pairs_join FallsTo xs (y ∷ []) falls (tt, tt) (each_as (λ (x : Entry). y.number < x.number) (λ x. Each (FallsTo x) (y ∷ [])) (λ x less. (less, tt)) xs above)
 
 each_reverse : (P : Entry → Type 0) (entries : List Entry) → Each P entries → Each P (reverse entries)
 each_reverse P [] h = tt
@@ -82,7 +83,7 @@ counted_falls parts logs family e = reverse_falls (filter (counts_for family) (l
 
 pub each_mem : (P : Entry → Type 0) (entries : List Entry) → Each P entries → Each P (mem_of entries)
 each_mem P [] h = tt
-each_mem P (entry ∷ entries) h = each_put P entry (mem_of entries) h.0 (each_mem P entries h.1)
+each_mem P (entry ∷ entries) h = put_each P entry (mem_of entries) h.0 (each_mem P entries h.1)
 
 pub mem_column : (key : List ℕ) (entries : List Entry) → Pairwise FallsTo entries → of_key key (mem_of entries) ≡ of_key key entries
 mem_column key [] falls = refl

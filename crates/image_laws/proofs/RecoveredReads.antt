@@ -14,13 +14,15 @@ use Rattle.st_base.specs.declared.entry.Mark.{Mark}
 use Rattle.st_model.specs.Contents.{with_marks}
 use Rattle.st_model.specs.Read.{mark_at, last_write}
 use Rattle.base_laws.proofs.Lists.{each_as, each_join}
+use Rattle.core_laws.proofs.Lists.{filter_join, pairs_as, pairs_join}
+use Rattle.core_laws.proofs.ToldByColumns.{column_joined as of_runs}
 use Rattle.core_model.specs.Column.{Pairwise, column, of_key, first_at, found_at}
 use Rattle.core_model.specs.Crash.{newest_of}
 use Rattle.core_model.specs.Picture.{find_mark, walk, runs_of, tables_in, above, level_at}
 use Rattle.core_model.specs.RelationParts.{NumbersWithin, NumbersFall}
 use Rattle.store_image.specs.Opens.{OpenedImageFamily, image_entries_of, upper_tables, lower_tables, unfallen_in}
 use Rattle.store_image.specs.Recover.{recovered_view, recovered_family}
-use Rattle.image_laws.proofs.Lists.{pairs_append, pairs_weaker, column_joined, filter_append}
+use Rattle.image_laws.proofs.Lists.{column_joined}
 use Rattle.image_laws.proofs.Best.{each_column, IsLower}
 use Rattle.image_laws.proofs.Maps.{value_with}
 use Rattle.image_laws.proofs.Reflect.{Follows, family_falls}
@@ -42,7 +44,7 @@ last_reverse (entry ∷ entries) = ap last_mark (reverse-append (entry ∷ []) e
 
 filter_reverse : {X : Type 0} (p : X → Bool) (xs : List X) → filter p (reverse xs) ≡ reverse (filter p xs)
 filter_reverse p [] = refl
-filter_reverse p (x ∷ xs) = ap (filter p) (reverse-append (x ∷ []) xs) ∙ filter_append p (reverse xs) (x ∷ []) ∙ ap (λ l. l ++ cond (p x) (x ∷ []) []) (filter_reverse p xs) ∙ go (p x)
+filter_reverse p (x ∷ xs) = ap (filter p) (reverse-append (x ∷ []) xs) ∙ filter_join p (reverse xs) (x ∷ []) ∙ ap (λ l. l ++ cond (p x) (x ∷ []) []) (filter_reverse p xs) ∙ go (p x)
   where
     go : (b : Bool) → reverse (filter p xs) ++ cond b (x ∷ []) [] ≡ reverse (cond b (x ∷ filter p xs) (filter p xs))
     go true = sym (reverse-append (x ∷ []) (filter p xs))
@@ -72,10 +74,6 @@ write_mark last key entries h =
 pub fold_marks : (marks : List (List ℕ × Mark)) (entries : List Entry) → fold (λ marks (entry : Entry). set_at marks entry.key entry.mark) marks entries ≡ with_marks marks entries
 fold_marks marks [] = refl
 fold_marks marks (entry ∷ entries) = fold_marks (set_at marks entry.key entry.mark) entries
-
-of_runs : (key : List ℕ) (runs : List (List Entry)) → of_key key (flat_map (λ entries. entries) runs) ≡ column key runs
-of_runs key [] = refl
-of_runs key (run ∷ runs) = filter_append (λ (entry : Entry). same entry.key key) run (flat_map (λ entries. entries) runs) ∙ ap (λ l. of_key key run ++ l) (of_runs key runs)
 
 each_runs : (P : Entry → Type 0) (runs : List (List Entry)) → Each (Each P) runs → Each P (flat_map (λ entries. entries) runs)
 each_runs P [] h = tt
@@ -166,7 +164,7 @@ upper_column : (family : OpenedImageFamily) (key : List ℕ) → Pairwise FallsT
 upper_column family key falls =
     ap (λ l. l ++ column key (runs_of (upper_tables family))) (mem_column key family.counted falls)
     ∙ ap (λ l. of_key key family.counted ++ l) (sym (column_joined key (upper_tables family)))
-    ∙ sym (filter_append (λ (entry : Entry). same entry.key key) family.counted (image_entries_of (upper_tables family)))
+    ∙ sym (filter_join (λ (entry : Entry). same entry.key key) family.counted (image_entries_of (upper_tables family)))
 
 -- in the last level a number is less, or 0
 lower_number : (one other : Entry) → Follows true one other → same one.key other.key ≡ true → (other.number < one.number) ⊎ (other.number ≡ 0)
@@ -202,7 +200,7 @@ recovered_falls last family lower_is counted none lower key =
     record {
       above = subst (Pairwise FallsTo) (sym (upper_column family key counted))
           (upper_falls key (family.counted ++ image_entries_of (upper_tables family))
-          (pairs_append (Follows false) family.counted (image_entries_of (upper_tables family)) (pairs_weaker FallsTo (Follows false) falls_follow family.counted counted) falls.0.pairs (turn false family.counted (image_entries_of (upper_tables family)) falls.0.behind)));
+          (pairs_join (Follows false) family.counted (image_entries_of (upper_tables family)) (pairs_as FallsTo (Follows false) falls_follow family.counted counted) falls.0.pairs (turn false family.counted (image_entries_of (upper_tables family)) falls.0.behind)));
       below = lower key;
       across = subst (λ up. Each (λ one. Each (λ other. (other.number < one.number) ⊎ (other.number ≡ 0)) (column key (runs_of (level_at (recovered_view family) 6)))) up) (sym (upper_column family key counted))
           (subst (λ low. Each (λ one. Each (λ other. (other.number < one.number) ⊎ (other.number ≡ 0)) low) (of_key key (family.counted ++ image_entries_of (upper_tables family))))

@@ -5,10 +5,10 @@ use Rattle.std.specs.List.{list_all, AllByRecursion as Each}
 use Rattle.std.proofs.lemmas.Bool.{false≢true, leb-true}
 use Rattle.st_base.specs.declared.entry.Entry.{Entry}
 use Rattle.base_laws.proofs.Lists.{append_none, each_as, each_back, each_front, each_join}
+use Rattle.core_laws.proofs.Lists.{pairs_join}
 use Rattle.core_model.specs.Column.{Pairwise}
 use Rattle.core_model.specs.Picture.{FileEntries}
 use Rattle.store_image.specs.Opens.{OpenedImageFamily, image_entries_of, may_follow, entries_fall, unfallen, unfallen_in, upper_tables, lower_tables}
-use Rattle.image_laws.proofs.Lists.{pairs_append}
 
 abbrev pub Follows : Bool → Entry → Entry → Type 0
 Follows bottom before entry = may_follow bottom entry before ≡ true
@@ -68,7 +68,7 @@ tables_fall last bottom before (table ∷ tables) e =
     record {
       behind = each_join (λ entry. Each (λ one. Follows bottom one entry) before) table.entries (image_entries_of tables) first.behind
           (each_as (λ entry. Each (λ one. Follows bottom one entry) (before ++ table.entries)) (λ entry. Each (λ one. Follows bottom one entry) before) (λ entry h. each_front (λ one. Follows bottom one entry) before table.entries h) (image_entries_of tables) rest.behind);
-      pairs = pairs_append (Follows bottom) table.entries (image_entries_of tables) first.pairs rest.pairs
+      pairs = pairs_join (Follows bottom) table.entries (image_entries_of tables) first.pairs rest.pairs
           (turn bottom table.entries (image_entries_of tables) (each_as (λ entry. Each (λ one. Follows bottom one entry) (before ++ table.entries)) (λ entry. Each (λ one. Follows bottom one entry) table.entries) (λ entry h. each_back (λ one. Follows bottom one entry) before table.entries h) (image_entries_of tables) rest.behind));
       within = each_join (λ entry. entry.number ≤ last) table.entries (image_entries_of tables) first.within rest.within;
     }

@@ -13,10 +13,10 @@ use Rattle.st_model.specs.declared.state.ModelFamily.{ModelFamily}
 use Rattle.st_model.specs.declared.state.ModelState.{ModelState}
 use Rattle.base_laws.proofs.Lists.{each_as, each_map, map_each}
 use Rattle.base_laws.proofs.Maps.{found_each}
+use Rattle.core_laws.proofs.Lists.{pairs_as}
 use Rattle.core_model.specs.Column.{Pairwise}
 use Rattle.core_model.specs.Relation.{Represents}
 use Rattle.core_model.specs.Picture.{Core, FamilyView}
-use Rattle.image_laws.proofs.Lists.{pairs_weaker}
 use Rattle.image_laws.proofs.Write.{NamesFamily}
 
 -- ---- pairs by their places, as pairs along the list
@@ -78,7 +78,7 @@ families_apart core state stands =
     (subst (Pairwise Apart) (sym stands.same.families)
     (pairs_mapped Apart (λ (named : List ℕ × ModelFamily). (named.0, named.1.id)) state.families
     (pairs_both (λ (one other : List ℕ × ModelFamily). same other.0 one.0 ≡ false) (λ one other. one.1.id ≡ other.1.id → ⊥) state.families
-    (pairs_weaker (λ (one other : List ℕ × ModelFamily). IsTrue (below one.0 other.0)) (λ one other. same other.0 one.0 ≡ false) (λ one other h. apart_of_below one.0 other.0 h) state.families
+    (pairs_as (λ (one other : List ℕ × ModelFamily). IsTrue (below one.0 other.0)) (λ one other. same other.0 one.0 ≡ false) (λ one other h. apart_of_below one.0 other.0 h) state.families
     (pairs_of_places (λ (one other : List ℕ × ModelFamily). IsTrue (below one.0 other.0)) state.families stands.sound.names))
     (pairs_of_places (λ (one other : List ℕ × ModelFamily). one.1.id ≡ other.1.id → ⊥) state.families stands.sound.ids))))
 

@@ -14,6 +14,9 @@ use Rattle.st_base.specs.Map.{changed_at}
 use Rattle.st_base.proofs.Same.{same_self, same_true, same_is_eq}
 use Rattle.st_base.specs.declared.entry.Entry.{Entry}
 use Rattle.base_laws.proofs.Lists.{append_one, each_as, each_join}
+use Rattle.core_laws.proofs.LevelLists.{map_append}
+use Rattle.core_laws.proofs.Lists.{filter_join}
+use Rattle.core_laws.proofs.WrittenFamily.{put_each}
 use Rattle.core_model.specs.Column.{of_key, column}
 use Rattle.core_model.specs.Picture.{Core, FamilyView, walk, runs_of, tables_in}
 use Rattle.core_model.specs.RelationParts.{NumbersWithin}
@@ -28,7 +31,6 @@ use Rattle.store_image.specs.Parts.{ImageParts, log_ops_of, counts_for, counted_
 use Rattle.image_laws.proofs.Logs.{whole_of, none_of, last_append}
 use Rattle.image_laws.proofs.Frame.{families_frame}
 use Rattle.store_image.specs.Tie.{EngineFiles, HoldsNamed, IsTiedFamily}
-use Rattle.image_laws.proofs.Lists.{filter_append, map_append}
 use Rattle.manifest_edits.specs.Logs.{LogOp, log_op_entry, records_in}
 use Rattle.store_image.specs.Calls.{HasLogMore}
 
@@ -71,19 +73,11 @@ put_column entry (other ∷ mem) key h = go (comes_before entry other) refl (sam
         ∙ rest
         ∙ ap (λ l. cond (same entry.key key) (entry ∷ l) l) (sym (ap (λ c. cond c (other ∷ of_key key mem) (of_key key mem)) f))
 
-pub each_put : (P : Entry → Type 0) (entry : Entry) (mem : List Entry) → P entry → Each P mem → Each P (put_in_memory entry mem)
-each_put P entry [] p h = (p, tt)
-each_put P entry (other ∷ mem) p h = go (comes_before entry other) (each_put P entry mem p h.1)
-  where
-    go : (b : Bool) → Each P (put_in_memory entry mem) → Each P (cond b (entry ∷ other ∷ mem) (other ∷ put_in_memory entry mem))
-    go true rest = (p, h)
-    go false rest = (h.0, rest)
-
 -- ---- one operation more
 
 counted_more : (family : NamedFamily) (ops : List LogOp) (op : LogOp) → counted_entries family (ops ++ op ∷ []) ≡ cond (counts_for family op) (log_op_entry op ∷ counted_entries family ops) (counted_entries family ops)
 counted_more family ops op =
-    ap (λ found. reverse (map log_op_entry found)) (filter_append (counts_for family) ops (op ∷ [])) ∙ go (counts_for family op)
+    ap (λ found. reverse (map log_op_entry found)) (filter_join (counts_for family) ops (op ∷ [])) ∙ go (counts_for family op)
   where
     go : (b : Bool) → reverse (map log_op_entry (filter (counts_for family) ops ++ cond b (op ∷ []) [])) ≡ cond b (log_op_entry op ∷ counted_entries family ops) (counted_entries family ops)
     go true = ap (λ (l : List Entry). reverse l) (map_append log_op_entry (filter (counts_for family) ops) (op ∷ [])) ∙ reverse-append (map log_op_entry (filter (counts_for family) ops)) (log_op_entry op ∷ [])
@@ -129,7 +123,7 @@ write_family parts ops last op true here there tied within number names = record
         → Each (λ older. Each (λ one. Each (λ other. other.number < one.number) older) (put_in_memory (log_op_entry op) here.1.mem)) sealed
     newer [] h within = tt
     newer (older ∷ sealed) h within = (
-      each_put (λ one. Each (λ other. other.number < one.number) older) (log_op_entry op) here.1.mem (each_as (λ (other : Entry). other.number ≤ last) (λ other. other.number < op.number) (λ other h. omega arith) older within.0) h.0,
+      put_each (λ one. Each (λ other. other.number < one.number) older) (log_op_entry op) here.1.mem (each_as (λ (other : Entry). other.number ≤ last) (λ other. other.number < op.number) (λ other h. omega arith) older within.0) h.0,
       newer sealed h.1 within.1,
     )
 
@@ -155,7 +149,7 @@ write_within last entry name (c ∷ cs) number within = (go (same c.0 name), wri
     more (run ∷ runs) h = (each_as (λ (one : Entry). one.number ≤ last) (λ one. one.number ≤ last + 1) (λ one le. omega arith) run h.0, more runs h.1)
 
     go : (b : Bool) → NumbersWithin (last + 1) (cond b (with_memory_entry entry c.1) c.1)
-    go true = (each_put (λ (one : Entry). one.number ≤ last + 1) entry c.1.mem (omega arith) (more (walk c.1) within.0).0, (more (walk c.1) within.0).1)
+    go true = (put_each (λ (one : Entry). one.number ≤ last + 1) entry c.1.mem (omega arith) (more (walk c.1) within.0).0, (more (walk c.1) within.0).1)
     go false = more (walk c.1) within.0
 
 -- ---- the operations of a write
