@@ -15,6 +15,8 @@ use Rattle.base_laws.proofs.Keys.{at_key}
 use Rattle.base_laws.proofs.Lists.{each_as}
 use Rattle.core_model.specs.Column.{Pairwise}
 use Rattle.core_model.specs.Relation.{Represents}
+use Rattle.core_model.specs.StatePicture.{RepresentsState, state_of}
+use Rattle.core_laws.proofs.OfState.{state_stands}
 use Rattle.core_model.specs.Picture.{FileEntries, FamilyView, Job, Core, lowest_level, tables_in, runs_of, find_mark, jobs_of, all_tables, live_numbers}
 use Rattle.core_model.specs.Request.{IsRequest, NamesThere}
 use Rattle.core_model.specs.RelationParts.{HaveSame, ForBoth, ForEach, ReadsAs, HasModelMarks, NumbersFall, NumbersWithin, LevelsApart, HasRanges, IsView, HasKnownKeys, HasWritten, IsFlush, IsCompacting, IsRunning, IsTurn, JobsRun, IsKept, KeepsReads, HasOutputs, AreNoted, ids_of, model_ids}
@@ -103,9 +105,9 @@ zip_of core state R same sound both =
 
 -- ---- from `Represents`, and back
 
-pub pairs_stand : (core : Core) (state : ModelState) → Represents core state → Zipped (Pair core.behind core.last (live_numbers core)) core.families state.families
-pairs_stand core state s =
-    let same = s.same in
+-- of what readers see alone
+pub pairs_of_state : (core : Core) (state : ModelState) → HaveSame core state → RepresentsState (state_of core) core.place state → Zipped (Pair core.behind core.last (live_numbers core)) core.families state.families
+pairs_of_state core state same s =
     let at : (R : FamilyView → ModelFamily → Type 0) → ForBoth core state R → Zipped R core.families state.families = λ R both. zip_of core state R same s.sound both in
     let fs = core.families in
     let ks = state.families in
@@ -141,6 +143,9 @@ pairs_stand core state s =
     numbers number there =
         of_read state.last (map (λ (live : Snapshot). live.number) state.live) number
         (subst (λ live. IsRead state.last live number) (ap (map (λ (live : Snapshot). live.number)) s.same.live) (subst (λ last. IsRead last (live_numbers core) number) s.same.last there))
+
+pub pairs_stand : (core : Core) (state : ModelState) → Represents core state → Zipped (Pair core.behind core.last (live_numbers core)) core.families state.families
+pairs_stand core state s = pairs_of_state core state s.same (state_stands core state s)
 
 pub record Rest (core : Core) : Type 0 where
   pub jobs : ForEach core (λ family. JobsRun (lowest_level core) (jobs_of core family) family)

@@ -71,3 +71,4 @@ mod RefusedLevel
 mod RefusedNumber
 mod OfState
 pub mod Bounds
+pub mod StateContents

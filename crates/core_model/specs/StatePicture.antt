@@ -1,14 +1,19 @@
 -- Representation over a state alone: what is published of the core,
 -- without jobs, turn, capacity and the next family id.
-use Rattle.std.specs.Prelude.{ℕ, Bool, ◌≡◌, IsTrue, List, Some}
+use Rattle.std.specs.Prelude.{ℕ, Bool, ◌≡◌, IsTrue, List, [], map, Some, if◌then◌else◌}
 use Rattle.std.specs.List.{AllByRecursion as Each}
 use Rattle.st_base.specs.Map.{value_at}
+use Rattle.st_base.specs.declared.entry.KeyRange.{KeyRange}
+use Rattle.st_model.specs.Contents.{as_entry, contents, kept_marks}
+use Rattle.st_model.specs.declared.contents.Contents.{Contents}
+use Rattle.st_model.specs.declared.contents.ContentsFamily.{ContentsFamily}
 use Rattle.st_model.specs.declared.state.ModelFamily.{ModelFamily}
 use Rattle.st_model.specs.declared.state.ModelState.{ModelState}
 use Rattle.st_model.specs.declared.state.Snapshot.{Snapshot}
 use Rattle.st_model.specs.Sound.{IsSound}
 use Rattle.st_model.specs.State.{family_of}
-use Rattle.core_model.specs.Picture.{FamilyView, Core}
+use Rattle.core_model.specs.Crash.{newest_of}
+use Rattle.core_model.specs.Picture.{FamilyView, Core, level_at, table_range, walk}
 use Rattle.core_model.specs.Relation.{Represents}
 use Rattle.core_model.specs.RelationParts.{ids_of, model_ids, ReadsAs, HasModelMarks, NumbersFall, NumbersWithin, LevelsApart, HasRanges, IsView, HasKnownKeys, HasWritten}
 
@@ -74,3 +79,31 @@ pub record RepresentsState (picture : StatePicture) (place : ℕ) (state : Model
 abbrev pub CoreRepresentsState : Type 0
 CoreRepresentsState = (core : Core) (state : ModelState) → Represents core state
     → RepresentsState (state_of core) core.place state
+
+-- ---- the contents of a picture
+
+-- with the flag, the ranges of the files behind
+abbrev pub state_ranges : Bool → FamilyView → List KeyRange
+state_ranges behind family = if behind then map table_range (level_at family 6) else []
+
+-- the newest marks along the walk, as the contents keep them
+abbrev pub state_contents_of : Bool → List ℕ × FamilyView → ContentsFamily
+state_contents_of behind named = record {
+  id = named.1.id;
+  name = named.0;
+  marks = map as_entry (kept_marks behind (newest_of (walk named.1)));
+  ranges = state_ranges behind named.1;
+}
+
+-- what is left of the picture where the store stops
+abbrev pub state_contents : StatePicture → Contents
+state_contents picture = record {
+  last = picture.last;
+  behind = picture.behind;
+  families = map (state_contents_of picture.behind) picture.families;
+}
+
+-- they are the contents of each state that the picture stands for
+abbrev pub StateHasContents : Type 0
+StateHasContents = (picture : StatePicture) (place : ℕ) (state : ModelState) → RepresentsState picture place state
+    → state_contents picture ≡ contents state
