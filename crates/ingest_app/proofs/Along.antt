@@ -15,8 +15,6 @@ use Rattle.st_model.specs.declared.command.Command.{Command}
 use Rattle.st_model.specs.declared.command.Command.TheVariants.{Write, Get}
 use Rattle.st_model.specs.declared.command.Command.TheVariants as command
 use Rattle.st_model.specs.declared.command.FileSeen.{FileSeen}
-use Rattle.st_model.specs.declared.refusal.Refusal.{Refusal}
-use Rattle.st_model.specs.declared.refusal.Refusal.TheVariants.{Stopped, DiskFault}
 use Rattle.st_model.specs.declared.reply.Reply.{Reply}
 use Rattle.st_model.specs.declared.reply.Reply.TheVariants.{Await, Refused}
 use Rattle.st_model.specs.declared.reply.Reply.TheVariants as reply
@@ -24,9 +22,9 @@ use Rattle.st_model.specs.declared.state.ModelState.{ModelState}
 use Rattle.st_model.specs.Asked.{IsAskedRightly}
 use Rattle.st_model.specs.Await.{AwaitsRightly, awaited}
 use Rattle.st_model.specs.Calls.{AreCallsOf, call_of, calls_after}
-use Rattle.st_model.specs.Causes.{HaveCauses, is_input_fault, is_stop, is_stored}
+use Rattle.st_model.specs.Causes.{is_input_fault, is_stop, is_stored}
 use Rattle.st_model.specs.History.{after_call, all_calls, is_change, placed_of, state_at}
-use Rattle.st_model.specs.Legal.{IsLegal, file_numbers, files_of, tells_state}
+use Rattle.st_model.specs.Legal.{IsLegal, file_numbers}
 use Rattle.st_model.specs.Long.{IsCut}
 use Rattle.st_model.specs.Places.{changes_in}
 use Rattle.st_model.specs.State.{IsOpening}
@@ -36,7 +34,7 @@ use Rattle.model_laws.proofs.Grow.{begins_legally, causes_grow, legal_grows, sta
 use Rattle.ingest_app.specs.Answer.{IsOfCall, IsStrangerTold, Prints, EngineSteps, answered_call, asked_alone}
 use Rattle.ingest_app.specs.Client.{transcript}
 use Rattle.ingest_app.specs.Crash.{AreKept, AreMoments, IsAfterFirst, IsAmong, IsOfRun, IsWithCutOff, state_now}
-use Rattle.ingest_app.specs.Op.{IsServed, is_served, refused_family, stranger_of}
+use Rattle.ingest_app.specs.Op.{IsServed, is_served}
 use Rattle.ingest_app.specs.declared.answer.Answer.{Answer}
 use Rattle.ingest_app.proofs.Printed.{transcript_grows, transcript_length}
 

@@ -1,17 +1,8 @@
 -- A run, from the opening of the disk on.
-use Rattle.std.proofs.Common.{◌||◌, true≢false, ◌≡◌, ◌⊎◌, inl, inr, ⊎_elim, ℕ, Bool, true, false, cond, List, [], ◌∷◌, map, filter, take, fold, Some, Ok, refl, sym, ◌∙◌, ap, subst, zero-le}
-use Rattle.st_base.specs.Bytes.{default_family}
-use Rattle.st_base.specs.declared.entry.Entry.{Entry}
-use Rattle.st_base.specs.declared.entry.Mark.{Mark}
-use Rattle.st_device.specs.Disk.{Image, DiskTold, IsHonest, Leaves, Passes}
-use Rattle.log_engine.specs.Engine.{OpensTo}
-use Rattle.log_engine.proofs.Writing.{in_image}
-use Rattle.st_model.specs.declared.command.Call.{Call}
+use Rattle.std.proofs.Common.{◌||◌, true≢false, ◌≡◌, ◌⊎◌, inl, inr, ⊎_elim, ℕ, Bool, true, false, List, Ok, sym, ◌∙◌, subst}
+use Rattle.st_device.specs.Disk.{DiskTold, IsHonest, Leaves, Passes}
 use Rattle.st_model.specs.declared.state.ModelState.{ModelState}
-use Rattle.st_model.specs.Contents.{as_entry, contents, is_kept, kept_marks, opened}
-use Rattle.st_model.specs.History.{accepted_calls, after_call, state_at}
-use Rattle.log_recover.specs.Contents.{contents_of, known_of, written_marks}
-use Rattle.log_recover.specs.Opens.{IsDamageOf, last_number, opens}
+use Rattle.log_recover.specs.Opens.{IsDamageOf, opens}
 use Rattle.log_recover.specs.declared.fault.OpenFault.{OpenFault}
 use Rattle.log_recover.specs.declared.fault.OpenFault.TheVariants.{Damaged as DamagedFault, DiskFault as DiskFailed, OutOfMemory}
 use Rattle.st_wal.specs.declared.logged.Logged.{Logged}

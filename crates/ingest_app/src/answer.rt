@@ -88,10 +88,7 @@ fn answer_get<D: Disk>(engine: &Engine<D>, family: &Family, key: &Key) -> Result
 }
 
 // Answers a command that is served, by the engine.
-fn answer_command<D: Disk>(
-    engine: &mut Engine<D>,
-    command: &Command,
-) -> Result<Answer, AllocError>
+fn answer_command<D: Disk>(engine: &mut Engine<D>, command: &Command) -> Result<Answer, AllocError>
     requires served { IsServed command.now }
     requires tied { IsHonest (D.tells engine.old.disk) → engine.old.stopped ≡ None
         → IsTied engine.old.wal engine.old.store (D.tells engine.old.disk) }

@@ -1,12 +1,11 @@
-use Rattle.std.proofs.Common.{◌≡◌, ◌⊎◌, None, [], length, map, take}
+use Rattle.std.proofs.Common.{◌≡◌, ◌⊎◌, None, take}
 use Rattle.st_base.specs.Count.{Rose}
 use Rattle.st_device.specs.Disk.{IsHonest, Passes}
 use Rattle.log_engine.specs.Engine.{IsTied}
 use Rattle.log_engine.specs.MarkStore.{StandsForState}
 use Rattle.st_model.specs.declared.state.ModelState.{ModelState}
 use Rattle.st_model.specs.State.{IsOpening}
-use Rattle.cmd_text.specs.declared.script.Numbered.{Numbered}
-use Rattle.ingest_app.specs.Client.{commands_alone, transcript}
+use Rattle.ingest_app.specs.Client.{commands_alone}
 use Rattle.ingest_app.proofs.Along.{Along}
 use Rattle.ingest_app.proofs.client.answer_script.Given as goal
 

@@ -1,4 +1,4 @@
-use Rattle.std.proofs.Common.{◌≡◌, refl}
+use Rattle.std.proofs.Common.{refl}
 use Rattle.ingest_app.specs.Client.{EndsAnswered, opening_of}
 use Rattle.ingest_app.specs.Run.{EndsOpening, EndsScripts, one_client}
 use Rattle.ingest_app.specs.declared.outcome.Outcome.{Outcome}
