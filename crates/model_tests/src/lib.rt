@@ -1,12 +1,10 @@
-//! Tests of the words, the model, its slow functions, the texts and the streams, by their public items.
+//! Tests of the words, the texts and the streams, by their public items.
 #![tactic(auto)]
 
 #[cfg(test)]
 mod base;
 #[cfg(test)]
 mod builds;
-#[cfg(test)]
-mod plain;
 #[cfg(test)]
 mod streams;
 #[cfg(test)]

@@ -17,7 +17,7 @@ use Rattle.st_base.specs.Entries.{add_charge}
 use Rattle.st_model.specs.Answer.{first_or, refused_if, unknown_families, place_spent, write_answer, write_refusals, snap_answer, snap_refusals, gone, release_answer, make_answer, make_refusals, drop_answer, drop_refusals}
 use Rattle.st_model.specs.Apply.{apply_file, IsApplicable, op_family, write_charge}
 use Rattle.st_model.specs.History.{is_change, taken, taken_files, placed_of, change_asked}
-use Rattle.st_model.specs.Refusals.{shape_refusals, inner_refusals, or_else, file_refusals, meeting_refusals, behind_refusals, fit_refusals}
+use Rattle.st_model.specs.Refusals.{shape_refusals, inner_refusals, refusals_or, file_refusals, meeting_refusals, behind_refusals, fit_refusals}
 use Rattle.st_model.specs.Request.{File, Argument, request_of}
 use Rattle.st_model.specs.declared.change.Taken.{Taken}
 use Rattle.st_model.specs.declared.reply.Placed.{Placed}
@@ -198,7 +198,7 @@ small_taken (argument ∷ request) placed each =
     small_append (taken_files argument argument.files placed) (taken request (drop (length argument.files) placed))
     (small_files argument argument.files placed each) (small_taken request (drop (length argument.files) placed) (small_drop (length argument.files) placed each))
 
-nothing_else : (shape inner : List Refusal) → or_else shape inner ≡ [] → inner ≡ []
+nothing_else : (shape inner : List Refusal) → refusals_or shape inner ≡ [] → inner ≡ []
 nothing_else [] inner e = e
 nothing_else (refusal ∷ shape) inner e = cc
 

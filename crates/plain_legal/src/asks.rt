@@ -4,10 +4,12 @@ ghost use Rattle.std.specs.Option.{option_copied};
 ghost use Rattle.st_base.specs.Range.{keys_rise};
 ghost use Rattle.st_model.specs.Asked.{takes_snapshot, snapshot_taken, last_snapshot, snapshot_named, snapshot_asked};
 ghost use Rattle.st_model.specs.Asked.{request_asked, names_files, SeesRightly, IsAskedRightly, AskRightly};
+ghost use Rattle.st_model.specs.Calls.{files_seen, asked_of};
 ghost use Rattle.plain_legal.specs.Runs.{is_seen_rightly};
 
-use st_base::{Entry, Family};
+use st_base::{Entry, Family, List};
 use st_model::{Asked, Call, Calls, Command, FileSeen, IngestExternalFileArg, Reply, Snapshot};
+use std::alloc::Global;
 
 // ---- snapshots by name
 
@@ -188,7 +190,42 @@ fn sees_rightly(command: &Command, seen: &[FileSeen]) -> bool
     are_seen_rightly(seen)
 }
 
+// The files that the command sees; one without a request sees none.
+fn files_seen(alloc: Global, command: &Command, seen: List<FileSeen>) -> List<FileSeen>
+    ensures { result ≡ files_seen (request_asked command.now) seen }
+{
+    match command {
+        Command::Ingest(_) => seen,
+        Command::Write(_) => List::new(alloc),
+        Command::Get(_, _) => List::new(alloc),
+        Command::GetAt(_, _, _) => List::new(alloc),
+        Command::View(_) => List::new(alloc),
+        Command::Scan(_, _, _, _) => List::new(alloc),
+        Command::ScanAt(_, _, _, _, _) => List::new(alloc),
+        Command::Snap(_) => List::new(alloc),
+        Command::Release(_) => List::new(alloc),
+        Command::MakeFamily(_) => List::new(alloc),
+        Command::DropFamily(_) => List::new(alloc),
+        Command::Flush(_) => List::new(alloc),
+        Command::Compact(_) => List::new(alloc),
+        Command::Await { .. } => List::new(alloc),
+    }
+}
+
 // ---- along a transcript
+
+/// What the command asks after these calls of its client, where its files are seen so.
+pub fn asked_of(alloc: Global, before: &[Call], command: Command, seen: List<FileSeen>) -> Asked
+    ensures { result ≡ asked_of before.now command seen }
+{
+    let snapshot = snapshot_asked(before, &command);
+    let files = files_seen(alloc, &command, seen);
+    Asked {
+        command,
+        files,
+        snapshot,
+    }
+}
 
 // Whether the command asks for its client's own snapshot, and sees each file that it names.
 fn is_asked_rightly(before: &[Call], asked: &Asked) -> bool

@@ -10,7 +10,7 @@ mod long;
 mod places;
 mod run;
 
-pub use asks::ask_rightly;
+pub use asks::{ask_rightly, asked_of};
 pub use causes::{have_causes, have_numbers_once};
 pub use legal::legal;
 pub use line::line_of;

@@ -17,7 +17,7 @@ use Rattle.st_model.specs.declared.request.IngestExternalFileArg.{IngestExternal
 use Rattle.st_model.specs.declared.state.ModelState.{ModelState}
 use Rattle.st_model.specs.Answer.{refused_if}
 use Rattle.st_model.specs.Asked.{names_files}
-use Rattle.st_model.specs.Refusals.{has_no_files, repeated, has_too_many, shape_refusals, inner_refusals, or_else, exact_refusals, sure_refusals, first_refused, needs_sequence, step_of, IsFirstRefusal, MayRefuse}
+use Rattle.st_model.specs.Refusals.{has_no_files, repeated, has_too_many, shape_refusals, inner_refusals, refusals_or, exact_refusals, sure_refusals, first_refused, needs_sequence, step_of, IsFirstRefusal, MayRefuse}
 use Rattle.st_model.specs.Reply.{IsIngestReply}
 use Rattle.st_model.specs.Request.{Argument, arguments_from, files_from, request_of, files_named}
 use Rattle.st_model.specs.State.{greatest_number}
@@ -109,7 +109,7 @@ shape_is arguments seen h =
     ∙ ap (λ all. joined false without_is all (has_too_many (request_of arguments seen))) (twices 1 [] arguments seen)
     ∙ ap (λ many. joined false without_is (held (option_map refused.FamilyTwice (first_twice 1 [] arguments))) many) (many arguments seen ∙ h)
 
-or_shape : (empty twice : Option ℕ) (others : List Refusal) → or_else (shape_of empty twice) others ≡ shape_of empty twice
+or_shape : (empty twice : Option ℕ) (others : List Refusal) → refusals_or (shape_of empty twice) others ≡ shape_of empty twice
 or_shape None None others = refl
 or_shape None (Some m) others = refl
 or_shape (Some n) None others = refl
@@ -118,7 +118,7 @@ or_shape (Some n) (Some m) others = refl
 exact_is : (state : ModelState) (arguments : List IngestExternalFileArg) (seen : List FileSeen) → large arguments ≡ true
     → exact_refusals state (request_of arguments seen) ≡ shape_of (first_empty 1 arguments) (first_twice 1 [] arguments)
 exact_is state arguments seen h =
-    ap (λ shape. or_else shape (inner_refusals state (request_of arguments seen))) (shape_is arguments seen h)
+    ap (λ shape. refusals_or shape (inner_refusals state (request_of arguments seen))) (shape_is arguments seen h)
     ∙ or_shape (first_empty 1 arguments) (first_twice 1 [] arguments) (inner_refusals state (request_of arguments seen))
 
 -- ---- the first of them

@@ -1,15 +1,16 @@
-// plain_model, and the types of st_model: which transcripts are legal, their history, replies, reads and contents.
+// The slow programs of the model, and the types of st_model: which transcripts are legal, their history, replies, reads
+// and contents.
 ghost use Rattle.std.specs.Prelude.{◌≡◌, ◌∷◌, [], IfOk};
 ghost use Rattle.st_base.specs.Bytes.{default_family};
 ghost use Rattle.st_model.specs.Apply.{op_family};
 ghost use Rattle.st_model.specs.declared.change.Change.{Change};
 
 use cmd_text::{LineFault, Script, ScriptFault, read_reply, read_script};
-use plain_model::{apply, contents, history, legal, read, reply};
+use plain_legal::{asked_of, legal};
+use plain_model::{apply, contents, history, read};
+use plain_reply::reply;
 use st_base::{Family, Key, List, MakeFault, Mark, Value};
-use st_model::{
-    Asked, Batch, Call, Calls, Change, Command, Marks, ModelFamily, ModelState, Op, Refusal,
-};
+use st_model::{Batch, Call, Calls, Change, Command, Marks, ModelFamily, ModelState, Op, Refusal};
 use std::alloc::{AllocError, Global};
 use std::test::Fail;
 
@@ -31,16 +32,11 @@ fn command(alloc: Global, text: &str) -> Result<Command, ScriptFault> {
     last_of(script).ok_or(ScriptFault::Line(1))
 }
 
-// The command with its answer.
+// The command with its answer; it names no snapshot.
 fn answered(alloc: Global, command: Command, line: &str) -> Result<Call, LineFault> {
     let (place, reply) = read_reply(alloc, line.as_bytes())?;
-    let asked = Asked {
-        command,
-        files: List::new(alloc),
-        snapshot: None,
-    };
     Ok(Call {
-        asked,
+        asked: asked_of(alloc, &[], command, List::new(alloc)),
         place,
         reply,
     })
@@ -61,7 +57,7 @@ fn transcript(alloc: Global, lines: &[Line]) -> Result<Calls, Fail> {
 
 // Whether clients of a new store of 1,000 bytes may have been answered so, without a fault of the disk.
 fn are_legal(alloc: Global, transcripts: &[Calls]) -> Result<bool, AllocError> {
-    let opening = ModelState::new_store(alloc)?;
+    let opening = ModelState::new_store(alloc, false)?;
     legal(alloc, &opening, 1000, transcripts, 0, false)
 }
 
@@ -188,6 +184,7 @@ fn is_change_of_a(change: &Change, one: bool) -> bool {
             [op] => sets_a(op, one),
             _ => false,
         },
+        _ => false,
     }
 }
 
@@ -206,8 +203,8 @@ fn changes_of_two_clients(rt: HostRuntime) -> Result<(), Fail> {
 
 // Whether a new store of so many bytes may answer so.
 fn is_allowed(alloc: Global, capacity: u64, call: &Call) -> Result<bool, AllocError> {
-    let opening = ModelState::new_store(alloc)?;
-    reply(&opening, capacity, &call.asked, &call.reply)
+    let opening = ModelState::new_store(alloc, false)?;
+    reply(alloc, &opening, capacity, &call.asked, &call.reply)
 }
 
 // `put default a 1` counts 34 bytes.
@@ -243,7 +240,7 @@ fn single(alloc: Global, op: Op) -> Result<Change, AllocError>
 // The state after the first write of a new store.
 fn written(alloc: Global) -> Result<ModelState, MakeFault> {
     let change = single(alloc, put_a(alloc)?)?;
-    let opening = ModelState::new_store(alloc)?;
+    let opening = ModelState::new_store(alloc, false)?;
     Ok(apply(alloc, &opening, &change)?)
 }
 
@@ -288,7 +285,7 @@ fn base_is_read(rt: HostRuntime) -> Result<(), Fail> {
 
 #[test]
 fn a_new_store_has_one_family(rt: HostRuntime) -> Result<(), Fail> {
-    let state = ModelState::new_store(rt.alloc())?;
+    let state = ModelState::new_store(rt.alloc(), false)?;
     let left = contents(rt.alloc(), &state)?;
     assert!(rt; left.last == 0);
     assert!(rt; left.families.len() == 1);
