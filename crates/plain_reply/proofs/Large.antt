@@ -4,6 +4,7 @@ use Rattle.std.specs.Prelude.{◌↔◌, Contains}
 use Rattle.std.specs.List.{list_any, AllByRecursion as Each}
 use Rattle.std.specs.Option.{option_map}
 use Rattle.std.proofs.lemmas.Bool.{true≢false}
+use Rattle.std.proofs.lemmas.List.Sums.{sum_by-cons}
 use Rattle.std.proofs.lemmas.Bool.Decides.{nat_tests}
 use Rattle.st_base.specs.Bytes.{same, below}
 use Rattle.st_model.specs.declared.command.FileSeen.{FileSeen}
@@ -74,7 +75,10 @@ counted number (argument ∷ arguments) seen = omega (arith, counted (number + 1
 
 named : (number : ℕ) (arguments : List IngestExternalFileArg) (seen : List FileSeen) → files_named (arguments_from number arguments seen) ≡ names_files (Some arguments)
 named number [] seen = refl
-named number (argument ∷ arguments) seen = ap (λ n. length argument.files + n) (named (number + 1) arguments (drop (length argument.files) seen))
+named number (argument ∷ arguments) seen =
+    sum_by-cons (λ (one : Argument). one.named) (first_argument number argument seen) (arguments_from (number + 1) arguments (drop (length argument.files) seen))
+    ∙ ap (λ n. length argument.files + n) (named (number + 1) arguments (drop (length argument.files) seen))
+    ∙ sym (sum_by-cons (λ (one : IngestExternalFileArg). length one.files) argument arguments)
 
 abbrev large : List IngestExternalFileArg → Bool
 large arguments = nat_lt 64 (length arguments) || nat_lt 1024 (names_files (Some arguments))
