@@ -4,7 +4,7 @@
 
 mod asks;
 mod causes;
-mod legal;
+mod legality;
 mod line;
 mod long;
 mod places;
@@ -12,7 +12,7 @@ mod run;
 
 pub use asks::{ask_rightly, asked_of};
 pub use causes::{have_causes, have_numbers_once};
-pub use legal::legal;
+pub use legality::legal;
 pub use line::line_of;
 pub use long::are_cut_rightly;
 pub use places::{all_calls, are_awaits_right, are_in_order, are_places_once, are_within};

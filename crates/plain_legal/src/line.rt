@@ -5,7 +5,7 @@ ghost use Rattle.st_base.specs.Faults.{printed_table_fault};
 ghost use Rattle.st_model.specs.declared.refusal.Refusal.TheVariants as refused;
 ghost use Rattle.st_model.specs.Line.{file_words, range_words, why_words, refusal_words, read_word, pair_word};
 ghost use Rattle.st_model.specs.Line.{placed_word, reply_words, line_of};
-ghost use Rattle.st_model.specs.Word.{is_plain, hex_digit, byte_word, word};
+ghost use Rattle.st_base.specs.Word.{is_plain, hex_digit, byte_word, word};
 
 use st_base::{Bytes, Family, Key, KeyRange, List, TableFault, Value};
 use st_model::{FileAt, Placed, Refusal, Reply, Why};
