@@ -9,7 +9,7 @@ use Rattle.st_model.specs.declared.state.ModelState.{ModelState}
 use Rattle.st_model.specs.History.{after_call}
 use Rattle.st_model.specs.Legal.{tells_place, AreAcceptedInTurn}
 use Rattle.st_model.specs.Reply.{IsReply}
-use Rattle.plain_legal.specs.Runs.{AreChanges, IsAnsweredAt, IsAnsweredAlong}
+use Rattle.plain_legal.specs.Runs.{AreChanges, IsAnsweredThere, IsAnsweredAlong}
 
 next : (i : ℕ) → suc i ≡ i + 1
 next i = omega arith
@@ -59,28 +59,28 @@ abbrev Speaks : ℕ → ModelState → Call → Type 0
 Speaks capacity state call = MatchBool (tells_place call.reply) (IsReply state capacity call.asked call.reply) ⊤
 
 module _ (opening state : ModelState) (capacity : ℕ) (calls accepted : List Call) (i : ℕ) (s : state ≡ fold after_call opening (take i accepted)) where
-  here : (call : Call) → IsAnsweredAlong opening capacity accepted call → IsAnsweredAt state capacity i call
+  here : (call : Call) → IsAnsweredAlong opening capacity accepted call → IsAnsweredThere state capacity i call
   here call h e =
       subst (λ (one : ModelState). Speaks capacity one call) (sym s) (subst (λ (n : ℕ). Speaks capacity (fold after_call opening (take n accepted)) call) e h)
 
-  there : (call : Call) → call.place ≡ i → IsAnsweredAt state capacity i call → IsAnsweredAlong opening capacity accepted call
+  there : (call : Call) → call.place ≡ i → IsAnsweredThere state capacity i call → IsAnsweredAlong opening capacity accepted call
   there call e h =
       subst (λ (n : ℕ). Speaks capacity (fold after_call opening (take n accepted)) call) (sym e) (subst (λ (one : ModelState). Speaks capacity one call) s (h e))
 
   -- where all are answered rightly, those of this place are
-  pub answered_here : Each (IsAnsweredAlong opening capacity accepted) calls → Each (IsAnsweredAt state capacity i) calls
-  answered_here all = each_map (IsAnsweredAlong opening capacity accepted) (IsAnsweredAt state capacity i) here calls all
+  pub answered_here : Each (IsAnsweredAlong opening capacity accepted) calls → Each (IsAnsweredThere state capacity i) calls
+  answered_here all = each_map (IsAnsweredAlong opening capacity accepted) (IsAnsweredThere state capacity i) here calls all
 
   -- those of this place join those before it
-  pub answered_more : Each (λ (call : Call). call.place < i → IsAnsweredAlong opening capacity accepted call) calls → Each (IsAnsweredAt state capacity i) calls
+  pub answered_more : Each (λ (call : Call). call.place < i → IsAnsweredAlong opening capacity accepted call) calls → Each (IsAnsweredThere state capacity i) calls
       → Each (λ (call : Call). call.place < i + 1 → IsAnsweredAlong opening capacity accepted call) calls
   answered_more before at =
-      each_both (λ (call : Call). call.place < i → IsAnsweredAlong opening capacity accepted call) (IsAnsweredAt state capacity i) (λ (call : Call). call.place < i + 1 → IsAnsweredAlong opening capacity accepted call)
+      each_both (λ (call : Call). call.place < i → IsAnsweredAlong opening capacity accepted call) (IsAnsweredThere state capacity i) (λ (call : Call). call.place < i + 1 → IsAnsweredAlong opening capacity accepted call)
       (λ call earlier now l. elim (up_to call.place i l) [ inl less ↦ earlier less | inr same ↦ there call same now ]) calls before at
 
   -- at the last state all calls have been tested
   pub answered_all : Each (λ (call : Call). call.place ≤ i) calls → Each (λ (call : Call). call.place < i → IsAnsweredAlong opening capacity accepted call) calls
-      → Each (IsAnsweredAt state capacity i) calls → Each (IsAnsweredAlong opening capacity accepted) calls
+      → Each (IsAnsweredThere state capacity i) calls → Each (IsAnsweredAlong opening capacity accepted) calls
   answered_all within before at =
       each_both (λ (call : Call). call.place ≤ i) (λ (call : Call). call.place < i + 1 → IsAnsweredAlong opening capacity accepted call) (IsAnsweredAlong opening capacity accepted)
       (λ call le all. all (omega (arith, le))) calls within (answered_more before at)

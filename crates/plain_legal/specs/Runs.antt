@@ -100,8 +100,8 @@ abbrev pub AreChanges : List Call → Type 0
 AreChanges calls = Each (λ call. IsTrue (is_change call.reply)) calls
 
 -- a reply that speaks of the state at this place may be given there
-abbrev pub IsAnsweredAt : ModelState → ℕ → ℕ → Call → Type 0
-IsAnsweredAt state capacity place call =
+abbrev pub IsAnsweredThere : ModelState → ℕ → ℕ → Call → Type 0
+IsAnsweredThere state capacity place call =
     call.place ≡ place → MatchBool (tells_place call.reply) (IsReply state capacity call.asked call.reply) ⊤
 
 -- the same of its own place, where these calls are the accepted ones

@@ -3,7 +3,7 @@ ghost use Rattle.std.specs.List.{AllByRecursion as Each};
 ghost use Rattle.st_model.specs.History.{after_call, is_change};
 ghost use Rattle.st_model.specs.Legal.{tells_place, AreAcceptedInTurn};
 ghost use Rattle.st_model.specs.Reply.{IsReply};
-ghost use Rattle.plain_legal.specs.Runs.{AreChanges, IsAnsweredAt, IsAnsweredAlong};
+ghost use Rattle.plain_legal.specs.Runs.{AreChanges, IsAnsweredThere, IsAnsweredAlong};
 
 use plain_model::{apply, change_of, is_change, placed_of};
 use plain_reply::reply;
@@ -110,7 +110,7 @@ fn is_answered_at(
     call: &Call,
     place: u64,
 ) -> Result<bool, AllocError>
-    ensures { IfOk result (λ holds. IsTrue holds ↔ IsAnsweredAt state.now capacity place call.now) }
+    ensures { IfOk result (λ holds. IsTrue holds ↔ IsAnsweredThere state.now capacity place call.now) }
 {
     if call.place == place && tells_place(&call.reply) {
         reply(alloc, state, capacity, &call.asked, &call.reply)
@@ -127,7 +127,7 @@ fn are_answered_at(
     calls: &[Call],
     place: u64,
 ) -> Result<bool, AllocError>
-    ensures { IfOk result (λ holds. IsTrue holds ↔ Each (IsAnsweredAt state.now capacity place) calls.now) }
+    ensures { IfOk result (λ holds. IsTrue holds ↔ Each (IsAnsweredThere state.now capacity place) calls.now) }
 {
     for call in calls {
         if !is_answered_at(alloc, state, capacity, call, place)? {

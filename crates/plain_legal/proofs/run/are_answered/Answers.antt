@@ -4,7 +4,7 @@ use Rattle.std.specs.List.{AllByRecursion as Each}
 use Rattle.std.proofs.lemmas.Result.{IfOk-weaker}
 use Rattle.st_model.specs.declared.command.Call.{Call}
 use Rattle.st_model.specs.History.{after_call}
-use Rattle.plain_legal.specs.Runs.{IsAnsweredAt, IsAnsweredAlong}
+use Rattle.plain_legal.specs.Runs.{IsAnsweredThere, IsAnsweredAlong}
 use Rattle.plain_legal.proofs.Along.{state_more, turn_more, changes_more, answered_here, answered_more, answered_all}
 use Rattle.plain_legal.proofs.run.are_answered.Goals as goal
 
@@ -25,7 +25,7 @@ returns c =
     let state = subst (λ (n : ℕ). c.loop-place.state ≡ fold after_call c.args.opening.now (take n c.args.accepted.now)) end c.loop-place.invariant.state in
     let before = subst (λ (n : ℕ). Each (λ (call : Call). call.place < n → IsAnsweredAlong c.args.opening.now c.args.capacity c.args.accepted.now call) c.args.calls.now) end c.loop-place.invariant.answered in
     IfOk-weaker c.are_answered_at-2.result
-    (λ holds. IsTrue holds ↔ Each (IsAnsweredAt c.loop-place.state c.args.capacity (length c.args.accepted.now)) c.args.calls.now)
+    (λ holds. IsTrue holds ↔ Each (IsAnsweredThere c.loop-place.state c.args.capacity (length c.args.accepted.now)) c.args.calls.now)
     (λ holds. IsTrue holds ↔ Each (IsAnsweredAlong c.args.opening.now c.args.capacity c.args.accepted.now) c.args.calls.now)
     (λ holds h. (
       (λ t. answered_all c.args.opening.now c.loop-place.state c.args.capacity c.args.calls.now c.args.accepted.now (length c.args.accepted.now) state c.requires.within before (h.0 t)),
