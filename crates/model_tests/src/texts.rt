@@ -219,6 +219,12 @@ fn is_read(alloc: Global, place: u64, line: &str) -> Result<bool, LineFault> {
     Ok(read_place == place && is_printed(alloc, place, &read, line)?)
 }
 
+// Whether the place and the reply print as the line, and it is read as what prints as it again.
+fn is_line_of(alloc: Global, place: u64, reply: Reply, line: &str) -> Result<bool, LineFault> {
+    let printed = is_printed(alloc, place, &reply, line)?;
+    Ok(printed && is_read(alloc, place, line)?)
+}
+
 // Places and replies, and the line of each.
 static REPLIES: [(u64, ShownReply, &str); 24] = [
     (1, ShownReply::Written(1), "1 written 1\n"),
@@ -291,8 +297,7 @@ fn replies_are_printed(rt: HostRuntime) -> Result<(), Fail> {
     word_is_read();
     for (place, shown, line) in REPLIES.iter() {
         let reply = reply(rt.alloc(), *shown)?;
-        assert!(rt; is_printed(rt.alloc(), *place, &reply, line)?, "{line}");
-        assert!(rt; is_read(rt.alloc(), *place, line)?, "{line}");
+        assert!(rt; is_line_of(rt.alloc(), *place, reply, line)?, "{line}");
     }
     Ok(())
 }
@@ -345,36 +350,71 @@ fn range(alloc: Global, first: &[u8], last: &[u8]) -> Result<KeyRange, MakeFault
     Ok(KeyRange { first, last })
 }
 
+fn key_why(alloc: Global, key: &[u8]) -> Result<Why, MakeFault> {
+    Ok(Why::Key(Key::new(alloc, key)?))
+}
+
+fn running(alloc: Global, first: &[u8], last: &[u8]) -> Result<Why, MakeFault> {
+    Ok(Why::Running(range(alloc, first, last)?))
+}
+
+fn meets(alloc: Global, first: &[u8], last: &[u8]) -> Result<Why, MakeFault> {
+    Ok(Why::Meets(range(alloc, first, last)?))
+}
+
 fn why(alloc: Global, shown: ShownWhy) -> Result<Why, MakeFault> {
     match shown {
-        ShownWhy::Key(key) => Ok(Why::Key(Key::new(alloc, key)?)),
-        ShownWhy::Running(first, last) => Ok(Why::Running(range(alloc, first, last)?)),
+        ShownWhy::Key(key) => key_why(alloc, key),
+        ShownWhy::Running(first, last) => running(alloc, first, last),
         ShownWhy::Snapshot(number) => Ok(Why::Snapshot(number)),
         ShownWhy::Files(first, second) => Ok(Why::Files(first, second)),
-        ShownWhy::Meets(first, last) => Ok(Why::Meets(range(alloc, first, last)?)),
+        ShownWhy::Meets(first, last) => meets(alloc, first, last),
     }
+}
+
+fn unknown_family(alloc: Global, name: &[u8]) -> Result<Refusal, MakeFault> {
+    Ok(Refusal::UnknownFamily(Family::new(alloc, name)?))
+}
+
+fn family_exists(alloc: Global, name: &[u8]) -> Result<Refusal, MakeFault> {
+    Ok(Refusal::FamilyExists(Family::new(alloc, name)?))
+}
+
+fn flush_needed(alloc: Global, at: FileAt, key: &[u8]) -> Result<Refusal, MakeFault> {
+    Ok(Refusal::FlushNeeded(at, Key::new(alloc, key)?))
+}
+
+fn does_not_fit(
+    alloc: Global,
+    at: FileAt,
+    first: &[u8],
+    last: &[u8],
+) -> Result<Refusal, MakeFault> {
+    Ok(Refusal::BehindDoesNotFit(at, range(alloc, first, last)?))
+}
+
+fn needs_sequence(alloc: Global, at: FileAt, cause: ShownWhy) -> Result<Refusal, MakeFault> {
+    Ok(Refusal::NeedsSequence(at, why(alloc, cause)?))
+}
+
+fn not_last_level(
+    alloc: Global,
+    at: FileAt,
+    level: u8,
+    cause: ShownWhy,
+) -> Result<Refusal, MakeFault> {
+    Ok(Refusal::NotLastLevel(at, level, why(alloc, cause)?))
 }
 
 // A refusal that has keys or a name among its parts; any other is `Stopped`.
 fn long_refusal(alloc: Global, shown: ShownRefusal) -> Result<Refusal, MakeFault> {
     match shown {
-        ShownRefusal::UnknownFamily(name) => {
-            Ok(Refusal::UnknownFamily(Family::new(alloc, name)?))
-        }
-        ShownRefusal::FamilyExists(name) => Ok(Refusal::FamilyExists(Family::new(alloc, name)?)),
-        ShownRefusal::FlushNeeded(at, key) => {
-            Ok(Refusal::FlushNeeded(at, Key::new(alloc, key)?))
-        }
-        ShownRefusal::BehindDoesNotFit(at, first, last) => Ok(Refusal::BehindDoesNotFit(
-            at,
-            range(alloc, first, last)?,
-        )),
-        ShownRefusal::NeedsSequence(at, cause) => {
-            Ok(Refusal::NeedsSequence(at, why(alloc, cause)?))
-        }
-        ShownRefusal::NotLastLevel(at, level, cause) => {
-            Ok(Refusal::NotLastLevel(at, level, why(alloc, cause)?))
-        }
+        ShownRefusal::UnknownFamily(name) => unknown_family(alloc, name),
+        ShownRefusal::FamilyExists(name) => family_exists(alloc, name),
+        ShownRefusal::FlushNeeded(at, key) => flush_needed(alloc, at, key),
+        ShownRefusal::BehindDoesNotFit(at, first, last) => does_not_fit(alloc, at, first, last),
+        ShownRefusal::NeedsSequence(at, cause) => needs_sequence(alloc, at, cause),
+        ShownRefusal::NotLastLevel(at, level, cause) => not_last_level(alloc, at, level, cause),
         _ => Ok(Refusal::Stopped),
     }
 }
@@ -407,6 +447,7 @@ fn refusal(alloc: Global, shown: ShownRefusal) -> Result<Refusal, MakeFault> {
 
 // The second file of the first argument, and one of the greatest numbers.
 const SECOND: FileAt = FileAt { arg: 1, file: 2 };
+
 const LAST: FileAt = FileAt {
     arg: 4_294_967_295,
     file: 4_294_967_295,
@@ -418,7 +459,10 @@ static REFUSALS: [(ShownRefusal, &str); 31] = [
     (ShownRefusal::NoFiles(2), "3 refused 2 NoFiles 2\n"),
     (ShownRefusal::FamilyTwice(2), "3 refused 3 FamilyTwice 2\n"),
     (ShownRefusal::TooManyFiles, "3 refused 4 TooManyFiles\n"),
-    (ShownRefusal::FileMissing(SECOND), "3 refused 5 FileMissing 1 2\n"),
+    (
+        ShownRefusal::FileMissing(SECOND),
+        "3 refused 5 FileMissing 1 2\n",
+    ),
     (
         ShownRefusal::InputFault(LAST),
         "3 refused 6 InputFault 4294967295 4294967295\n",
@@ -428,11 +472,23 @@ static REFUSALS: [(ShownRefusal, &str); 31] = [
         "3 refused 7 BadTable 1 2 Short\n",
     ),
     (ShownRefusal::NoEntry(SECOND), "3 refused 8 NoEntry 1 2\n"),
-    (ShownRefusal::FilesMeet(SECOND, 3), "3 refused 9 FilesMeet 1 2 3\n"),
+    (
+        ShownRefusal::FilesMeet(SECOND, 3),
+        "3 refused 9 FilesMeet 1 2 3\n",
+    ),
     (ShownRefusal::Stopped, "3 refused 10 Stopped\n"),
-    (ShownRefusal::UnknownFamily(b"p"), "3 refused 11 UnknownFamily p\n"),
-    (ShownRefusal::BehindNotEnabled(1), "3 refused 12 BehindNotEnabled 1\n"),
-    (ShownRefusal::SnapshotsLive(1, 9), "3 refused 13 SnapshotsLive 1 9\n"),
+    (
+        ShownRefusal::UnknownFamily(b"p"),
+        "3 refused 11 UnknownFamily p\n",
+    ),
+    (
+        ShownRefusal::BehindNotEnabled(1),
+        "3 refused 12 BehindNotEnabled 1\n",
+    ),
+    (
+        ShownRefusal::SnapshotsLive(1, 9),
+        "3 refused 13 SnapshotsLive 1 9\n",
+    ),
     (
         ShownRefusal::FlushNeeded(SECOND, b"a b"),
         "3 refused 14 FlushNeeded 1 2 a\\x20b\n",
@@ -472,11 +528,17 @@ static REFUSALS: [(ShownRefusal, &str); 31] = [
     (ShownRefusal::NumbersSpent, "3 refused 18 NumbersSpent\n"),
     (ShownRefusal::StoreFull, "3 refused 19 StoreFull\n"),
     (ShownRefusal::DiskFault, "3 refused 20 DiskFault\n"),
-    (ShownRefusal::FamilyExists(b"left"), "3 refused 21 FamilyExists left\n"),
+    (
+        ShownRefusal::FamilyExists(b"left"),
+        "3 refused 21 FamilyExists left\n",
+    ),
     (ShownRefusal::DefaultStays, "3 refused 22 DefaultStays\n"),
     (ShownRefusal::FamiliesFull, "3 refused 23 FamiliesFull\n"),
     (ShownRefusal::SnapshotsFull, "3 refused 24 SnapshotsFull\n"),
-    (ShownRefusal::SnapshotGone(0), "3 refused 27 SnapshotGone 0\n"),
+    (
+        ShownRefusal::SnapshotGone(0),
+        "3 refused 27 SnapshotGone 0\n",
+    ),
     (
         ShownRefusal::SnapshotGone(18_446_744_073_709_551_615),
         "3 refused 27 SnapshotGone 18446744073709551615\n",
@@ -487,8 +549,7 @@ static REFUSALS: [(ShownRefusal, &str); 31] = [
 fn refusals_are_printed(rt: HostRuntime) -> Result<(), Fail> {
     for (shown, line) in REFUSALS.iter() {
         let reply = Reply::Refused(refusal(rt.alloc(), *shown)?);
-        assert!(rt; is_printed(rt.alloc(), 3, &reply, line)?, "{line}");
-        assert!(rt; is_read(rt.alloc(), 3, line)?, "{line}");
+        assert!(rt; is_line_of(rt.alloc(), 3, reply, line)?, "{line}");
     }
     Ok(())
 }
@@ -498,10 +559,22 @@ static FAULTS: [(TableFault, &str); 21] = [
     (TableFault::TooLarge, "0 refused 7 BadTable 1 2 TooLarge\n"),
     (TableFault::Short, "0 refused 7 BadTable 1 2 Short\n"),
     (TableFault::Magic, "0 refused 7 BadTable 1 2 Magic\n"),
-    (TableFault::Version(3), "0 refused 7 BadTable 1 2 Version 3\n"),
-    (TableFault::Checksum(255), "0 refused 7 BadTable 1 2 Checksum 255\n"),
-    (TableFault::Handle(40), "0 refused 7 BadTable 1 2 Handle 40\n"),
-    (TableFault::Compressed(0), "0 refused 7 BadTable 1 2 Compressed 0\n"),
+    (
+        TableFault::Version(3),
+        "0 refused 7 BadTable 1 2 Version 3\n",
+    ),
+    (
+        TableFault::Checksum(255),
+        "0 refused 7 BadTable 1 2 Checksum 255\n",
+    ),
+    (
+        TableFault::Handle(40),
+        "0 refused 7 BadTable 1 2 Handle 40\n",
+    ),
+    (
+        TableFault::Compressed(0),
+        "0 refused 7 BadTable 1 2 Compressed 0\n",
+    ),
     (
         TableFault::Sum {
             at: 0,
@@ -523,7 +596,10 @@ static FAULTS: [(TableFault, &str); 21] = [
         "0 refused 7 BadTable 1 2 Block 9 Order 2\n",
     ),
     (TableFault::RangeDel, "0 refused 7 BadTable 1 2 RangeDel\n"),
-    (TableFault::NoProperties, "0 refused 7 BadTable 1 2 NoProperties\n"),
+    (
+        TableFault::NoProperties,
+        "0 refused 7 BadTable 1 2 NoProperties\n",
+    ),
     (
         TableFault::ExternalVersion(None),
         "0 refused 7 BadTable 1 2 ExternalVersion -\n",
@@ -532,9 +608,18 @@ static FAULTS: [(TableFault, &str); 21] = [
         TableFault::ExternalVersion(Some(1)),
         "0 refused 7 BadTable 1 2 ExternalVersion 1\n",
     ),
-    (TableFault::Comparator, "0 refused 7 BadTable 1 2 Comparator\n"),
-    (TableFault::IndexKind, "0 refused 7 BadTable 1 2 IndexKind\n"),
-    (TableFault::Kind(3, 2), "0 refused 7 BadTable 1 2 Kind 3 2\n"),
+    (
+        TableFault::Comparator,
+        "0 refused 7 BadTable 1 2 Comparator\n",
+    ),
+    (
+        TableFault::IndexKind,
+        "0 refused 7 BadTable 1 2 IndexKind\n",
+    ),
+    (
+        TableFault::Kind(3, 2),
+        "0 refused 7 BadTable 1 2 Kind 3 2\n",
+    ),
     (
         TableFault::Number(3, 72_057_594_037_927_935),
         "0 refused 7 BadTable 1 2 Number 3 72057594037927935\n",
@@ -547,8 +632,7 @@ static FAULTS: [(TableFault, &str); 21] = [
 fn table_faults_are_printed(rt: HostRuntime) -> Result<(), Fail> {
     for (fault, line) in FAULTS.iter() {
         let reply = Reply::Refused(Refusal::BadTable(SECOND, *fault));
-        assert!(rt; is_printed(rt.alloc(), 0, &reply, line)?, "{line}");
-        assert!(rt; is_read(rt.alloc(), 0, line)?, "{line}");
+        assert!(rt; is_line_of(rt.alloc(), 0, reply, line)?, "{line}");
     }
     Ok(())
 }
