@@ -8,11 +8,21 @@ use st_model::{Call, Calls, Command, ModelState, Reply};
 use std::alloc::Global;
 use std::test::Fail;
 
+// Names of families: the first letters of these.
+static LETTERS: [u8; 64] = *b"ffffffffffffffffffffffffffffffffffffffffffffffffffffffffffffffff";
+
+// The name of so many letters, or the longest.
+fn name(letters: usize) -> &'static [u8] {
+    match LETTERS.get(..letters) {
+        Some(name) => name,
+        None => &LETTERS,
+    }
+}
+
 // One more snapshot, or one more family, whose name has so many letters.
 fn one_more(alloc: Global, is_family: bool, letters: usize) -> Result<Command, MakeFault> {
     if is_family {
-        let name = vec![in alloc; b'f'; letters]?;
-        Ok(Command::MakeFamily(Family::new(alloc, &name)?))
+        Ok(Command::MakeFamily(Family::new(alloc, name(letters))?))
     } else {
         Ok(Command::Snap(family(alloc, "s")?))
     }
@@ -46,8 +56,9 @@ fn more(
 // So many of them.
 fn filled(alloc: Global, is_family: bool, count: usize) -> Result<Calls, MakeFault> {
     let mut calls = Calls::new(alloc);
-    for number in 1..=count {
-        let next = more(alloc, is_family, number, number as u64, taken(is_family))?;
+    for before in 0..count {
+        let place = before as u64 + 1;
+        let next = more(alloc, is_family, before + 1, place, taken(is_family))?;
         calls.push(next)?;
     }
     Ok(calls)
