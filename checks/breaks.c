@@ -42,17 +42,23 @@ static int counted(const char *name, const char *target, const char *more) {
   return count != broken ? 0 : error ? 1 : 2;
 }
 
+/* the last part of a path, with the slashes behind it */
+static const char *last_part(const char *path) {
+  const char *last = path;
+  for (const char *at = path; *at; at++)
+    if (*at == '/' && at[1] && at[1] != '/') last = at + 1;
+  return last;
+}
+
 /* the last part of the path behind an open file */
 static const char *target_of(int file, char *path, size_t size) {
   char link[64];
   ssize_t length;
-  const char *slash;
   snprintf(link, sizeof link, "/proc/self/fd/%d", file);
   length = readlink(link, path, size - 1);
   if (length < 0) return "?";
   path[length] = 0;
-  slash = strrchr(path, '/');
-  return slash && slash[1] ? slash + 1 : path;
+  return last_part(path);
 }
 
 #define BREAKS(name, target, more, size)                \
@@ -70,25 +76,23 @@ static const char *target_of(int file, char *path, size_t size) {
 
 int open(const char *path, int flags, ...) {
   int (*real)(const char *, int, ...) = dlsym(RTLD_NEXT, "open");
-  const char *slash = strrchr(path, '/');
   int mode = 0, size = 0;
   va_list rest;
   va_start(rest, flags);
   mode = va_arg(rest, int);
   va_end(rest);
-  BREAKS("open", slash ? slash + 1 : path, flags & O_CREAT ? " new" : "", size)
+  BREAKS("open", last_part(path), flags & O_CREAT ? " new" : "", size)
   return real(path, flags, mode);
 }
 
 int openat(int folder, const char *path, int flags, ...) {
   int (*real)(int, const char *, int, ...) = dlsym(RTLD_NEXT, "openat");
-  const char *slash = strrchr(path, '/');
   int mode = 0, size = 0;
   va_list rest;
   va_start(rest, flags);
   mode = va_arg(rest, int);
   va_end(rest);
-  BREAKS("open", slash ? slash + 1 : path, flags & O_CREAT ? " new" : "", size)
+  BREAKS("open", last_part(path), flags & O_CREAT ? " new" : "", size)
   return real(folder, path, flags, mode);
 }
 

@@ -56,7 +56,7 @@ allowed() {
   local on=5
   case "$2" in
   writes) on=4 ;;
-  f[0-9]* | db | .) on=5 ;;
+  f[0-9]* | db | db/ | . | "$(basename "$folder")") on=5 ;;
   *) on=6 ;;
   esac
   # a signal: the call is tried again, or the run ends
