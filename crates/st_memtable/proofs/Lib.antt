@@ -1,0 +1,6 @@
+mod Joins
+mod Shared
+mod Positions
+mod Halves
+mod Sums
+mod Finding
