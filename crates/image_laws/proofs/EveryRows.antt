@@ -29,7 +29,7 @@ abbrev old_edits : List Edit
 old_edits = AddFamily 0 default_family ∷ AddLog 3 ∷ AddTable 0 placed ∷ Last 1 ∷ []
 
 abbrev new_edits : List Edit
-new_edits = AddFamily 0 default_family ∷ AddTable 0 placed ∷ Flushed 0 0 ∷ AddLog 6 ∷ Last 1 ∷ []
+new_edits = AddFamily 0 default_family ∷ AddTable 0 placed ∷ Flushed 0 0 ∷ AddLog 9 ∷ Last 1 ∷ []
 
 abbrev table_seven : Bool → Option TableFile
 table_seven true = Some (record { length = 10; entries = Some entries })
@@ -49,7 +49,7 @@ abbrev parts : ImageParts
 parts = image ((2, false) ∷ []) old_edits
 
 abbrev other : ImageParts
-other = image ((2, false) ∷ (5, false) ∷ []) new_edits
+other = image ((2, false) ∷ (8, false) ∷ []) new_edits
 
 abbrev levels : List (List FileEntries)
 levels = (record { file = 7; entries = entries } ∷ []) ∷ [] ∷ [] ∷ [] ∷ [] ∷ [] ∷ [] ∷ []
@@ -87,18 +87,21 @@ step : IsCoreStep (recovered_core 1000 read) (Crashed 8) Done after
 step = inl (((omega arith, tt), omega arith), (refl, record { families = (recovered_core 1000 read).families; reopened = ((refl, refl), tt); core_after = refl }))
 
 abbrev files : EngineFiles
-files = record { manifest = 5; log = 6; older_logs = []; root = (2, false) ∷ []; root_last = (5, false); named = named (6 ∷ []) }
+files = record { manifest = 8; log = 9; older_logs = []; root = (2, false) ∷ []; root_last = (8, false); named = named (9 ∷ []) }
 
 reopened : IsReopened parts other (recovered_core 1000 read) after 8 (named (3 ∷ [])) files
 reopened = record {
+  manifest_is = refl;
+  log_is = refl;
   marked = refl;
+  root_is = refl;
   root = refl;
   counts = refl;
   records = record { at = 8; left = 0; edits = new_edits } ∷ [];
   manifest = refl;
   read = refl;
   apart = record { manifest = ((λ e. omega (arith, e)), ((λ e. omega (arith, e)), ((λ e. omega (arith, e)), ((λ e. omega (arith, e)), tt)))); log = ((λ e. omega (arith, e)), ((λ e. omega (arith, e)), ((λ e. omega (arith, e)), tt))) };
-  families = (record { name = refl; id = refl; flushed = omega arith; tables = refl }, tt);
+  families = (record { name = refl; id = refl; flushed = refl; sound = (refl, tt); tables = refl }, tt);
   same = record { logs = (refl, tt); tables = ((refl, tt), tt) };
   older = refl;
   logs = refl;

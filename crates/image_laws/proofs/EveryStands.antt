@@ -104,7 +104,7 @@ sorted_rise (m ∷ ms) h = (firsts ms h.0, sorted_rise ms h.1)
     firsts [] k = tt
     firsts (o ∷ os) k = (ap is_lt k.0, firsts os k.1)
 
-newest_rises : (runs : List (List Entry)) → KeysRise (newest_of runs)
+pub newest_rises : (runs : List (List Entry)) → KeysRise (newest_of runs)
 newest_rises runs = all_of_pairs (λ (one other : List ℕ × Mark). IsTrue (below one.0 other.0)) (newest_of runs)
     (sorted_rise (newest_of runs) (subst IsSorted (sym (fold_marks [] (reverse (flat_map (λ (entries : List Entry). entries) runs)))) (sorted_with [] (reverse (flat_map (λ (entries : List Entry). entries) runs)) tt)))
 

@@ -23,10 +23,9 @@ use Rattle.manifest_edits.specs.Logs.{LogReading, LogFound, LogOp, records_in, l
 use Rattle.core_model.specs.RelationParts.{IsSortedRun, FitsSizes}
 
 pub table_is_new : TableIsNew
-table_is_new parts file size before old new entries joined tables sound at = record {
+table_is_new parts file size before old new entries joined tables at = record {
   size = size;
   tables = tables;
-  sound = sound;
   entries = λ others also. at ∙ ap {B = FileEntries} (λ l. record { file = file; entries = l }) (joined_is_one _ entries others joined also);
 }
 
@@ -63,13 +62,13 @@ abbrev old_edits : List Edit
 old_edits = AddFamily 0 default_family ∷ AddLog 3 ∷ Last 0 ∷ []
 
 abbrev new_edits : List Edit
-new_edits = AddFamily 0 default_family ∷ AddTable 0 placed ∷ Flushed 0 1 ∷ AddLog 6 ∷ Last 1 ∷ []
+new_edits = AddFamily 0 default_family ∷ AddTable 0 placed ∷ Flushed 0 0 ∷ AddLog 10 ∷ Last 1 ∷ []
 
 abbrev parts : ImageParts
 parts = image ((2, false) ∷ []) old_edits
 
 abbrev other : ImageParts
-other = image ((2, false) ∷ (5, false) ∷ []) new_edits
+other = image ((2, false) ∷ (9, false) ∷ []) new_edits
 
 abbrev read : OpenedImage
 read = record { behind = false; last = 1; families = (default_family, record { id = 0; counted = entries; levels = [] ∷ [] ∷ [] ∷ [] ∷ [] ∷ [] ∷ [] ∷ [] }) ∷ [] }
@@ -78,7 +77,7 @@ abbrev old_named : Named
 old_named = record { families = (default_family, record { id = 0; flushed = 0; tables = [] }) ∷ []; logs = 3 ∷ []; last = 0 }
 
 abbrev new_named : Named
-new_named = record { families = (default_family, record { id = 0; flushed = 1; tables = placed ∷ [] }) ∷ []; logs = 6 ∷ []; last = 1 }
+new_named = record { families = (default_family, record { id = 0; flushed = 0; tables = placed ∷ [] }) ∷ []; logs = 10 ∷ []; last = 1 }
 
 it_opens : image_opens true parts ≡ Ok read
 it_opens = refl
@@ -116,11 +115,14 @@ step : IsCoreStep (recovered_core 1000 read) (Crashed 8) Done after
 step = inl ((tt, omega arith), (refl, record { families = after.families; reopened = ((refl, record { entries = entries; joined = is_joined; view = refl }), tt); core_after = refl }))
 
 abbrev files : EngineFiles
-files = record { manifest = 5; log = 6; older_logs = []; root = (2, false) ∷ []; root_last = (5, false); named = new_named }
+files = record { manifest = 9; log = 10; older_logs = []; root = (2, false) ∷ []; root_last = (9, false); named = new_named }
 
 reopened : IsReopened parts other (recovered_core 1000 read) after 8 old_named files
 reopened = record {
+  manifest_is = refl;
+  log_is = refl;
   marked = refl;
+  root_is = refl;
   root = refl;
   counts = refl;
   records = record { at = 8; left = 0; edits = new_edits } ∷ [];
@@ -131,8 +133,9 @@ reopened = record {
     record {
       name = refl;
       id = refl;
-      flushed = omega arith;
-      tables = table_is_new other 8 10 (default_family, record { id = 0; mem = entries; sealed = []; levels = [] ∷ [] ∷ [] ∷ [] ∷ [] ∷ [] ∷ [] ∷ [] }) (default_family, record { id = 0; flushed = 0; tables = [] }) (default_family, record { id = 0; flushed = 1; tables = placed ∷ [] }) entries is_joined refl refl refl;
+      flushed = refl;
+      sound = (refl, tt);
+      tables = table_is_new other 8 10 (default_family, record { id = 0; mem = entries; sealed = []; levels = [] ∷ [] ∷ [] ∷ [] ∷ [] ∷ [] ∷ [] ∷ [] }) (default_family, record { id = 0; flushed = 0; tables = [] }) (default_family, record { id = 0; flushed = 0; tables = placed ∷ [] }) entries is_joined refl refl;
     },
     tt,
   );

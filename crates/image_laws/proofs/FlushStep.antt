@@ -2,21 +2,21 @@
 -- opens to the contents of the state.
 use Rattle.std.proofs.Common.{◌≡◌, ℕ, ◌≤◌, Bool, true, false, cond, ◌&&◌, not, List, [], ◌∷◌, ◌++◌, map, filter, length, Option, Some, refl, sym, ap, subst, ◌∙◌, arith}
 use Rattle.std.specs.Prelude.{◌≢◌, IsTrue, nat_le, ◌==◌, max}
-use Rattle.std.specs.List.{AllByRecursion as Each}
-use Rattle.std.proofs.lemmas.Bool.{eqb-true}
+use Rattle.std.specs.List.{list_any, AllByRecursion as Each}
+use Rattle.std.proofs.lemmas.Bool.{eqb-true, false≢true, or_parts}
 use Rattle.st_base.specs.declared.entry.Entry.{Entry}
 use Rattle.st_model.specs.declared.state.ModelState.{ModelState}
-use Rattle.base_laws.proofs.Lists.{each_back, each_filter}
+use Rattle.base_laws.proofs.Lists.{each_as, each_back, each_filter, each_join, none_any}
 use Rattle.core_laws.proofs.Lists.{filter_join}
 use Rattle.core_model.specs.Compaction.{without_last, with_flushed as flushed_view}
 use Rattle.core_model.specs.Relation.{Represents}
 use Rattle.core_model.specs.Picture.{FileEntries, FamilyView, Job, Core, lowest_level}
 use Rattle.core_model.specs.RelationParts.{IsRunning, IsFlush, IsView}
 use Rattle.core_model.specs.Step.{installed}
-use Rattle.manifest_edits.specs.Edits.{Placement, AddTable, Flushed, Last, DropLog, NamedFamily, Named, GroupRecord, changed_named, has_id, has_table, has_log, edited, edited_all, with_table, with_flushed_number, is_last_edit, ends_with_last, AddsFile, may_place}
+use Rattle.manifest_edits.specs.Edits.{Placement, AddTable, Flushed, Last, DropLog, NamedFamily, Named, GroupRecord, has_id, has_table, has_log, edited, edited_all, with_table, with_flushed_number, is_last_edit, ends_with_last, AddsFile, may_place}
 use Rattle.store_image.specs.Opens.{holds_table, is_table}
 use Rattle.store_image.specs.Parts.{ImageParts, log_ops_of, file_entries, counts_for}
-use Rattle.store_image.specs.Steps.{HasMore, with_flush, flushed_named, without_logs, greatest_of}
+use Rattle.store_image.specs.Steps.{HasMore, is_spent, with_flush, flushed_named, without_logs, greatest_of}
 use Rattle.store_image.specs.Tie.{EngineFiles, IsUnwritten}
 use Rattle.image_laws.proofs.CompactEdits.{noted_runs}
 use Rattle.image_laws.proofs.CompactStep.{id_named}
@@ -32,7 +32,7 @@ use Rattle.manifest_edits.specs.CallEdits.{is_among_files}
 use Rattle.store_image.specs.Calls.{FilesAllDiffer}
 use Rattle.manifest_edits.specs.CallEdits.{flush_placement, flush_edits}
 use Rattle.store_image.specs.Calls.{IsImageOf}
-use Rattle.store_image.specs.Calls.{first_run, flushed_memory, flush_group, flush_named, flush_files, IsInstallingFlush}
+use Rattle.store_image.specs.Calls.{first_run, flush_families, flushed_memory, flush_group, flush_named, flush_files, IsInstallingFlush}
 
 -- ---- the edits, with a list of logs that go
 
@@ -94,6 +94,37 @@ view_flushes parts sizes job output family runs view some found = record {
     last_is : family.sealed ≡ without_last family.sealed ++ flushed_memory job ∷ []
     last_is = runs.oldest ∙ ap (λ inputs. without_last family.sealed ++ inputs) (one_input job.inputs runs.one)
 
+-- ---- the logs that go
+
+none_found : {X : Type 0} (test : X → Bool) (xs : List X) → list_any test xs ≡ false → filter test xs ≡ []
+none_found test [] e = refl
+none_found test (x ∷ xs) e =
+    let parts = or_parts (test x) (list_any test xs) e in
+    ap (λ b. cond b (x ∷ filter test xs) (filter test xs)) parts.0 ∙ none_found test xs parts.1
+
+not_so : (b : Bool) → not b ≡ true → b ≡ false
+not_so true e = absurd (false≢true e)
+not_so false e = refl
+
+-- no operation of the log counts for one of the families
+abbrev CountsNone : ImageParts → List (List ℕ × NamedFamily) → ℕ → Type 0
+CountsNone parts families file = Each (λ one. filter (counts_for one.1) (records_in (parts.log file)) ≡ []) families
+
+spent_counts : (parts : ImageParts) (families : List (List ℕ × NamedFamily)) (file : ℕ) → is_spent parts families file ≡ true → CountsNone parts families file
+spent_counts parts families file e =
+    each_as (λ (one : List ℕ × NamedFamily). list_any (counts_for one.1) (records_in (parts.log file)) ≡ false) (λ one. filter (counts_for one.1) (records_in (parts.log file)) ≡ [])
+    (λ one none. none_found (counts_for one.1) (records_in (parts.log file)) none) families
+    (none_any (λ (one : List ℕ × NamedFamily). list_any (counts_for one.1) (records_in (parts.log file))) families (not_so (list_any (λ (one : List ℕ × NamedFamily). list_any (counts_for one.1) (records_in (parts.log file))) families) e))
+
+-- each log that goes is spent: an older one as is said, and the present one stays
+spent_named : (parts : ImageParts) (families : List (List ℕ × NamedFamily)) (gone older logs : List ℕ) (log : ℕ) → logs ≡ older ++ log ∷ [] → is_among_files gone log ≡ false
+    → Each (λ file. is_among_files gone file ≡ is_spent parts families file) older → Each (λ file. is_among_files gone file ≡ true → CountsNone parts families file) logs
+spent_named parts families gone older logs log are stays spent =
+    subst (Each (λ file. is_among_files gone file ≡ true → CountsNone parts families file)) (sym are)
+    (each_join (λ file. is_among_files gone file ≡ true → CountsNone parts families file) older (log ∷ [])
+    (each_as (λ file. is_among_files gone file ≡ is_spent parts families file) (λ file. is_among_files gone file ≡ true → CountsNone parts families file) (λ file e among. spent_counts parts families file (sym e ∙ among)) older spent)
+    ((λ among. absurd (false≢true (sym stays ∙ among))), tt))
+
 pub drops_add : (P : ℕ → Type 0) (gone : List ℕ) (last : ℕ) → Each (AddsFile P) (map DropLog gone ++ Last last ∷ [])
 drops_add P [] last = (tt, tt)
 drops_add P (file ∷ gone) last = (tt, drops_add P gone last)
@@ -110,15 +141,14 @@ flush_opens core state files parts other flag at sizes number job output gone is
     (flush_is_group core state files parts at sizes number job output gone is) (is.unwritten, (tt, drops_add (IsUnwritten files) gone core.last))
     (each_filter (λ file. file ≢ files.log) (λ file. not (is_among_files gone file)) files.older_logs (older_apart files is.tied.apart)) is.tied.apart)
     (flush_holds core other files.named job (flushed_memory job) (flush_placement output.file (sizes output.file)) output (is_among_files gone) (holds_frame core parts other files.named has.same is.tied.holds) is.stands.within
-    (record { family = flushes core.families (noted_runs core state number job is.stands is.noted_is) is.stands.views; spent = spends files.named.logs has.same.logs is.spent }))
+    (record { family = flushes core.families (noted_runs core state number job is.stands is.noted_is) is.stands.views; spent = spends files.named.logs has.same.logs (spent_named parts (flush_families sizes job output files.named) gone files.older_logs files.named.logs files.log is.tied.log is.stays is.spent) }))
   where
     flushes : (cs : List (List ℕ × FamilyView)) → Each (λ here. here.1.id ≡ job.family → IsRunning (lowest_level core) here.1 job) cs → Each (λ here. IsView here.1) cs
         → Each (λ one. one.1.id ≡ job.family → Flushes other one.1 (flushed_memory job) (flush_placement output.file (sizes output.file)) output) cs
     flushes [] runs views = tt
     flushes (c ∷ cs) runs views = ((λ id. view_flushes other sizes job output c.1 ((runs.0 id).0 (eqb-true job.level 0 is.kind)) views.0 is.outputs.some.0 found), flushes cs runs.1 views.1)
 
-    spends : (logs : List ℕ) → Each (λ file. other.log file ≡ parts.log file) logs
-        → Each (λ file. is_among_files gone file ≡ true → Each (λ one. filter (counts_for one.1) (records_in (parts.log file)) ≡ []) (changed_named job.family (with_flush (flush_placement output.file (sizes output.file)) (greatest_of (flushed_memory job))) files.named.families)) logs
-        → Each (λ file. is_among_files gone file ≡ true → Each (λ one. filter (counts_for one.1) (records_in (other.log file)) ≡ []) (changed_named job.family (with_flush (flush_placement output.file (sizes output.file)) (greatest_of (flushed_memory job))) files.named.families)) logs
+    spends : (logs : List ℕ) → Each (λ file. other.log file ≡ parts.log file) logs → Each (λ file. is_among_files gone file ≡ true → CountsNone parts (flush_families sizes job output files.named) file) logs
+        → Each (λ file. is_among_files gone file ≡ true → CountsNone other (flush_families sizes job output files.named) file) logs
     spends [] same h = tt
-    spends (file ∷ logs) same h = ((λ among. subst (λ read. Each (λ (one : List ℕ × NamedFamily). filter (counts_for one.1) (records_in read) ≡ []) (changed_named job.family (with_flush (flush_placement output.file (sizes output.file)) (greatest_of (flushed_memory job))) files.named.families)) (sym same.0) (h.0 among)), spends logs same.1 h.1)
+    spends (file ∷ logs) same h = ((λ among. subst (λ read. Each (λ (one : List ℕ × NamedFamily). filter (counts_for one.1) (records_in read) ≡ []) (flush_families sizes job output files.named)) (sym same.0) (h.0 among)), spends logs same.1 h.1)

@@ -42,7 +42,7 @@ last_reverse : (entries : List Entry) → last_mark (reverse entries) ≡ head_m
 last_reverse [] = refl
 last_reverse (entry ∷ entries) = ap last_mark (reverse-append (entry ∷ []) entries) ∙ last_push (reverse entries) entry
 
-filter_reverse : {X : Type 0} (p : X → Bool) (xs : List X) → filter p (reverse xs) ≡ reverse (filter p xs)
+pub filter_reverse : {X : Type 0} (p : X → Bool) (xs : List X) → filter p (reverse xs) ≡ reverse (filter p xs)
 filter_reverse p [] = refl
 filter_reverse p (x ∷ xs) = ap (filter p) (reverse-append (x ∷ []) xs) ∙ filter_join p (reverse xs) (x ∷ []) ∙ ap (λ l. l ++ cond (p x) (x ∷ []) []) (filter_reverse p xs) ∙ go (p x)
   where

@@ -1,6 +1,6 @@
 -- An opening writes what a crash leaves in memory, and ties it.
-use Rattle.std.proofs.Common.{◌≡◌, ℕ, ◌+◌, ◌<◌, Bool, true, false, ◌||◌, List, [], ◌∷◌, ◌++◌, None, Some, refl, sym, ap, subst, ◌∙◌, arith}
-use Rattle.std.specs.Prelude.{nat_le, max, IsTrue, MatchBool, length}
+use Rattle.std.proofs.Common.{◌≡◌, ℕ, ◌+◌, ◌<◌, ◌≤◌, Bool, true, false, ◌||◌, List, [], ◌∷◌, ◌++◌, None, Some, refl, sym, ap, subst, ◌∙◌, arith}
+use Rattle.std.specs.Prelude.{nat_le, max, min, MatchBool, length}
 use Rattle.std.specs.List.{list_any, AllByRecursion as Each, AllZip}
 use Rattle.std.proofs.lemmas.Bool.{false≢true, le-leb}
 use Rattle.st_base.specs.declared.entry.Entry.{Entry}
@@ -8,10 +8,10 @@ use Rattle.core_model.specs.Column.{of_key, column}
 use Rattle.core_model.specs.Crash.{Reopens, IsFlushedByCrash, rank}
 use Rattle.core_model.specs.Picture.{Core, FamilyView, memories}
 use Rattle.core_model.specs.Step.{has_memory}
-use Rattle.manifest_edits.specs.Edits.{Placement, NamedFamily, Named}
-use Rattle.store_image.specs.Opens.{image_log_damage, read_damage, is_sound, last_op}
-use Rattle.store_image.specs.Parts.{ImageParts, log_ops_of, image_levels}
-use Rattle.store_image.specs.Steps.{HasNewTable, IsReopenedNamed, AllReopened, IsReopening}
+use Rattle.manifest_edits.specs.Edits.{NamedFamily, Named}
+use Rattle.store_image.specs.Opens.{image_log_damage, read_damage, last_op}
+use Rattle.store_image.specs.Parts.{ImageParts, log_ops_of}
+use Rattle.store_image.specs.Steps.{HasLevelsOf, HasNewTable, IsReopenedNamed, AllReopened, IsReopening}
 use Rattle.store_image.specs.Tie.{IsTiedToImage, IsTiedFamily, HoldsNamed, IsReadByOpening}
 use Rattle.core_model.specs.RelationParts.{MemoriesFall}
 use Rattle.st_model.specs.Contents.{contents, opened}
@@ -27,15 +27,15 @@ use Rattle.manifest_edits.specs.CallEdits.{flush_placement}
 
 -- ---- no memtable has an entry
 
-run_empty : (entries : List Entry) → nat_le 1 (length entries) ≡ false → entries ≡ []
+pub run_empty : (entries : List Entry) → nat_le 1 (length entries) ≡ false → entries ≡ []
 run_empty [] e = refl
 run_empty (entry ∷ entries) e = absurd (false≢true (sym e ∙ le-leb 1 (length (entry ∷ entries)) (omega arith)))
 
-either : (b c : Bool) → (b || c) ≡ false → (b ≡ false) × (c ≡ false)
+pub either : (b c : Bool) → (b || c) ≡ false → (b ≡ false) × (c ≡ false)
 either true c e = absurd (false≢true (sym e))
 either false c e = (refl, e)
 
-column_empty : (key : List ℕ) (runs : List (List Entry)) → list_any (λ entries. nat_le 1 (length entries)) runs ≡ false → column key runs ≡ []
+pub column_empty : (key : List ℕ) (runs : List (List Entry)) → list_any (λ entries. nat_le 1 (length entries)) runs ≡ false → column key runs ≡ []
 column_empty key [] e = refl
 column_empty key (run ∷ runs) e =
     let parts = either (nat_le 1 (length run)) (list_any (λ entries. nat_le 1 (length entries)) runs) e in
@@ -43,35 +43,35 @@ column_empty key (run ∷ runs) e =
 
 -- ---- one family
 
-sound_of : (parts : ImageParts) (tables new : List Placement) → new ≡ tables → Each (λ placed. IsTrue (is_sound parts placed)) tables → Each (λ placed. IsTrue (is_sound parts placed)) new
-sound_of parts tables new e h = subst (Each (λ placed. IsTrue (is_sound parts placed))) (sym e) h
+lesser_within : (n old last : ℕ) → n ≡ min old last → n ≤ last
+lesser_within n old last e = omega arith
 
 family_reopens : (parts : ImageParts) (ops : List LogOp) (n : ℕ) (core : Core) (first : ℕ) (before after : List ℕ × FamilyView) (old new : List ℕ × NamedFamily)
     → IsTiedFamily parts ops n before old → Reopens core first before after → IsReopenedNamed parts core.last (first + rank core before.1.id) before after old new → IsTiedFamily parts [] core.last after new
 family_reopens parts ops n core first before after old new tied reopens is = go (has_memory before) refl reopens.1 is.tables
   where
     go : (b : Bool) → has_memory before ≡ b → MatchBool b (IsFlushedByCrash (first + rank core before.1.id) before.1 after.1) (after.1 ≡ before.1)
-        → MatchBool b (HasNewTable parts (first + rank core before.1.id) before old new) (new.1.tables ≡ old.1.tables)
+        → MatchBool b (HasNewTable parts (first + rank core before.1.id) before old new) (HasLevelsOf parts old.1.tables new.1.tables)
         → IsTiedFamily parts [] core.last after new
     go true e opened has = record {
       name = is.name ∙ tied.name ∙ reopens.0;
       id = is.id ∙ tied.id ∙ ap {A = FamilyView} (λ view. view.id) (sym opened.view);
-      levels = ap (image_levels parts) has.tables
+      levels = has.tables
           ∙ level_front parts (flush_placement (first + rank core before.1.id) has.size) old.1.tables (record { file = first + rank core before.1.id; entries = opened.entries }) before.1 refl (has.entries opened.entries opened.joined) tied.levels
           ∙ ap {A = FamilyView} (λ view. view.levels) (sym opened.view);
       memory = λ key. ap {A = FamilyView} (λ view. column key (memories view)) opened.view;
       order = subst MemoriesFall (sym opened.view) (tt, tt);
-      flushed = is.flushed;
-      tables = sound_of parts (flush_placement (first + rank core before.1.id) has.size ∷ old.1.tables) new.1.tables has.tables (has.sound, tied.tables);
+      flushed = lesser_within new.1.flushed old.1.flushed core.last is.flushed;
+      tables = is.sound;
     }
     go false e same tables = record {
       name = is.name ∙ tied.name ∙ reopens.0;
       id = is.id ∙ tied.id ∙ ap {A = FamilyView} (λ view. view.id) (sym same);
-      levels = ap (image_levels parts) tables ∙ tied.levels ∙ ap {A = FamilyView} (λ view. view.levels) (sym same);
+      levels = tables ∙ tied.levels ∙ ap {A = FamilyView} (λ view. view.levels) (sym same);
       memory = λ key. ap {A = FamilyView} (λ view. column key (memories view)) same ∙ column_empty key (memories before.1) e;
       order = subst MemoriesFall (sym same) tied.order;
-      flushed = is.flushed;
-      tables = sound_of parts old.1.tables new.1.tables tables tied.tables;
+      flushed = lesser_within new.1.flushed old.1.flushed core.last is.flushed;
+      tables = is.sound;
     }
 
 -- ---- all of them

@@ -16,7 +16,7 @@ pub use laws::{
     drop_moves, edits_keep_named, fields_move, fields_tie, first_reads, flush_begun,
     flush_is_group, flush_move, flush_moves, gone_moves, gone_opens, make_begun, make_is_group,
     make_move, make_moves, named_next, not_table_not_named, opening_holds, opening_steps,
-    recovered_stands, roll_begun, roll_is_group, roll_move, roll_opens, seal_moves, seal_ties,
-    step_unnamed, swept_ends, table_is_new, tied_opens, unmarked_is_new, unrooted_is_new,
-    write_moves,
+    recovered_stands, reopening_is_crash, roll_begun, roll_is_group, roll_move, roll_opens,
+    seal_moves, seal_ties, step_unnamed, swept_ends, table_is_new, tied_opens, unmarked_is_new,
+    unrooted_is_new, write_moves,
 };

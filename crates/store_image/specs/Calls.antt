@@ -8,7 +8,7 @@ use Rattle.manifest_edits.specs.Edits.{Edit, NamedFamily, has_id, is_file, may_p
 use Rattle.core_model.specs.Picture.{Job, Core, FileEntries, FamilyView, Part, Turn, is_flush}
 use Rattle.st_model.specs.declared.state.ModelState.{ModelState}
 use Rattle.store_image.specs.Image.{OpensAs}
-use Rattle.store_image.specs.Parts.{ImageParts, counts_for}
+use Rattle.store_image.specs.Parts.{ImageParts}
 use Rattle.store_image.specs.Tie.{EngineFiles, IsUnwritten, IsTiedToImage}
 use Rattle.st_base.specs.Map.{set_at, value_at}
 use Rattle.core_model.specs.Relation.{Represents}
@@ -18,7 +18,7 @@ use Rattle.manifest_edits.specs.CallEdits.{with_files_named, commit_edits, compa
 use Rattle.core_model.specs.RelationParts.{files_in_parts}
 use Rattle.core_model.specs.Step.{noted_job, is_there, AreOutputs}
 use Rattle.st_base.specs.declared.entry.Entry.{Entry}
-use Rattle.store_image.specs.Steps.{with_flush, flushed_named, without_logs, greatest_of}
+use Rattle.store_image.specs.Steps.{is_spent, with_flush, flushed_named, without_logs, greatest_of}
 use Rattle.manifest_edits.specs.Logs.{records_in, LogFound, LogOp}
 use Rattle.st_model.specs.declared.change.Op.{Op}
 use Rattle.st_model.specs.Apply.{op_family, op_key, op_mark}
@@ -261,8 +261,14 @@ flush_files sizes core job output gone files = record files {
   older_logs = without_logs (is_among_files gone) files.older_logs;
 }
 
+-- what the families name behind the group of an installed flush
+abbrev pub flush_families : (ℕ → ℕ) → Job → FileEntries → Named → List (List ℕ × NamedFamily)
+flush_families sizes job output named =
+    changed_named job.family (with_flush (flush_placement output.file (sizes output.file))
+    (greatest_of (flushed_memory job))) named.families
+
 -- A noted flush of a family that is there, with its output, before it is installed: nothing names the output's file,
--- and no operation of the logs that go counts behind the group.
+-- and of the older logs those go of which no operation counts behind the group, and no other.
 pub record IsInstallingFlush (core : Core) (state : ModelState) (files : EngineFiles) (parts : ImageParts)
     (sizes : ℕ → ℕ) (number : ℕ) (job : Job) (output : FileEntries) (gone : List ℕ) : Type 0 where
   pub stands : Represents core state
@@ -277,10 +283,8 @@ pub record IsInstallingFlush (core : Core) (state : ModelState) (files : EngineF
   pub differ : FilesAllDiffer gone
   -- the present log stays
   pub stays : is_among_files gone files.log ≡ false
-  pub spent : Each (λ file. is_among_files gone file ≡ true
-      → Each (λ one. filter (counts_for one.1) (records_in (parts.log file)) ≡ [])
-      (changed_named job.family (with_flush (flush_placement output.file (sizes output.file))
-      (greatest_of (flushed_memory job))) files.named.families)) files.named.logs
+  pub spent : Each (λ file. is_among_files gone file
+      ≡ is_spent parts (flush_families sizes job output files.named) file) files.older_logs
 
 -- the last log has these operations more
 pub record HasLogMore (parts other : ImageParts) (older : List ℕ) (log : ℕ) (new : List LogOp) : Type 0 where

@@ -1,5 +1,5 @@
 -- Every image without damage: what it names, and what an opening of it does.
-use Rattle.std.specs.Prelude.{ℕ, Bool, true, false, ⊤, ◌≡◌, ◌⊎◌, ◌+◌, IsTrue, List, [], ◌∷◌, ◌++◌, None, Some, Ok}
+use Rattle.std.specs.Prelude.{ℕ, Bool, true, false, ⊤, ◌≡◌, ◌<◌, ◌≤◌, ◌⊎◌, ◌+◌, IsTrue, length, filter, if◌then◌else◌, List, [], ◌∷◌, ◌++◌, None, Some, Ok}
 use Rattle.std.specs.List.{AllByRecursion as Each}
 use Rattle.st_base.specs.Bytes.{default_family}
 use Rattle.st_base.specs.declared.entry.Entry.{Entry}
@@ -11,13 +11,13 @@ use Rattle.core_model.specs.Relation.{Represents}
 use Rattle.core_model.specs.Compaction.{IsJoined}
 use Rattle.core_model.specs.Picture.{FamilyView, Core, memories}
 use Rattle.core_model.specs.Run.{IsCoreStep, Refines}
-use Rattle.core_model.specs.Step.{IsNow}
+use Rattle.core_model.specs.Step.{IsNow, AreFilesBelow, has_memory}
 use Rattle.manifest_edits.specs.Edits.{NamedFamily, Named, GroupRecord, manifest_reading_none, read_records}
 use Rattle.store_image.specs.Image.{image_contents_in, image_contents, image_known_keys}
-use Rattle.store_image.specs.Opens.{OpenedImage, image_opens, image_opened, image_damage, is_sound}
+use Rattle.store_image.specs.Opens.{OpenedImage, image_opens, image_opened, image_damage}
 use Rattle.store_image.specs.Parts.{ImageParts, file_entries, table_at}
 use Rattle.store_image.specs.Recover.{recovered_core, HasRows, HasOps, IsNamed}
-use Rattle.store_image.specs.Steps.{SameNamed, OnlyUnnamed, HasNewTable, IsReopenedNamed}
+use Rattle.store_image.specs.Steps.{SameNamed, OnlyUnnamed, HasLevelsOf, HasNewTable, IsReopenedNamed}
 use Rattle.store_image.specs.Tie.{EngineFiles, IsApart, IsTiedToImage}
 use Rattle.manifest_edits.specs.Logs.{LogFound, records_in, log_op_entry}
 use Rattle.manifest_edits.specs.CallEdits.{flush_placement}
@@ -110,11 +110,32 @@ AllRenamed parts core first (before ∷ cs) (after ∷ as_) (old ∷ ns) (new �
     × AllRenamed parts core first cs as_ ns ms
 AllRenamed parts core first cs as_ ns ms = ⊥
 
+-- how many tables an opening makes: one for each family with counted operations
+abbrev pub new_table_count : Core → ℕ
+new_table_count core = length (filter has_memory core.families)
+
+-- the file of the new manifest, behind the new tables
+abbrev pub manifest_file : Core → ℕ → ℕ
+manifest_file core first = first + new_table_count core
+
+-- the file of the new log, behind the manifest
+abbrev pub log_file : Core → ℕ → ℕ
+log_file core first = manifest_file core first + 1
+
+-- the root's records before the opening; a store that isn't marked yet has its root made anew
+abbrev pub root_before : ImageParts → List (ℕ × Bool)
+root_before parts = if parts.marked then records_in parts.root else []
+
 -- The image once the root's record is open: it counts, its manifest names each family anew and the empty log as the
 -- only one; what was named reads the same.
 pub record IsReopened (parts other : ImageParts) (core after : Core) (first : ℕ) (old : Named)
     (files : EngineFiles) : Type 0 where
+  -- the new manifest and the new log take the file numbers behind the new tables
+  pub manifest_is : files.manifest ≡ manifest_file core first
+  pub log_is : files.log ≡ log_file core first
   pub marked : IsTrue other.marked
+  -- the root has the records that it had, and one more
+  pub root_is : files.root ≡ root_before parts
   pub root : other.root ≡ LogFound (files.root ++ files.root_last ∷ []) None
   pub counts : files.root_last ≡ (files.manifest, core.behind)
   pub records : List GroupRecord
@@ -191,6 +212,20 @@ OpeningSteps = (flag : Bool) (parts : ImageParts) (o : OpenedImage) (capacity fi
     → image_opens flag parts ≡ Ok o → IsNow (recovered_core capacity o) (Crashed first)
     → (after : Core) × IsCoreStep (recovered_core capacity o) (Crashed first) Done after
 
+-- a number that a file may have: the greatest of 64 bits is none
+abbrev pub IsFileNumber : ℕ → Type 0
+IsFileNumber file = file < 18446744073709551615
+
+-- file numbers suffice for an opening's new tables, its manifest and its log, all above those of the tables in place
+pub record HasFileNumbers (core : Core) (first : ℕ) : Type 0 where
+  pub below : AreFilesBelow core first
+  pub suffice : first + new_table_count core + 2 ≤ 18446744073709551615
+
+-- so the crash can come, and the manifest and the log have numbers of files
+abbrev pub OpeningHasNumbers : Type 0
+OpeningHasNumbers = (core : Core) (first : ℕ) → HasFileNumbers core first
+    → IsNow core (Crashed first) × IsFileNumber (manifest_file core first) × IsFileNumber (log_file core first)
+
 -- it can come to its end, where the crash can come
 abbrev pub EveryOpeningCanEnd : Type 0
 EveryOpeningCanEnd = CrashSteps → OpeningSteps
@@ -213,6 +248,6 @@ abbrev pub TableIsNew : Type 0
 TableIsNew =
     (parts : ImageParts) (file size : ℕ) (before : List ℕ × FamilyView) (old new : List ℕ × NamedFamily)
     (entries : List Entry) → IsJoined (memories before.1) entries
-    → new.1.tables ≡ flush_placement file size ∷ old.1.tables → IsTrue (is_sound parts (flush_placement file size))
+    → HasLevelsOf parts (flush_placement file size ∷ old.1.tables) new.1.tables
     → table_at parts (flush_placement file size) ≡ record { file = file; entries = entries }
     → HasNewTable parts file before old new
