@@ -1,17 +1,19 @@
 -- What an installation leaves of `Represents`: what holds of each family, of the noted jobs and of all tables.
 use Rattle.std.proofs.Common.{◌≡◌, ℕ, ◌+◌, ◌<◌, ◌≤◌, Bool, true, false, cond, not, List, [], ◌∷◌, ◌++◌, map, Option, Some, None, refl, sym, ap, subst, ◌∙◌, inl, inr, arith}
-use Rattle.std.specs.Prelude.{◌==◌, IsSomeAnd}
+use Rattle.std.specs.Prelude.{◌==◌, IfSome, IsSomeAnd, unwrap_or}
+use Rattle.std.specs.Option.{option_map}
 use Rattle.std.specs.List.{filter, flat_map, list_any, AllByRecursion as Each}
 use Rattle.std.proofs.lemmas.Bool.{cases_Bool, eqb-true, eq-eqb, ne_eqb, cond-true, cond-false}
-use Rattle.base_laws.proofs.Lists.{any_none, each_as, each_filter, each_front, each_map, flat_map_each, none_any}
+use Rattle.base_laws.proofs.Lists.{any_none, each_as, each_filter, each_join, each_map, flat_map_each, none_any}
 use Rattle.base_laws.proofs.Ranges.{meet_swaps}
 use Rattle.core_model.specs.Column.{Pairwise}
 use Rattle.core_laws.specs.SoundCore.{IsSoundCore, IdsDiffer}
 use Rattle.core_model.specs.Pick.{joint_range}
-use Rattle.core_model.specs.Picture.{FileEntries, FamilyView, Job, Core, lowest_level, tables_in, is_input, is_flush, jobs_of, all_tables}
-use Rattle.core_model.specs.RelationParts.{ForEach, IsRunning, AreApart, JobsRun, KeepsReads, HasOutputs, AreNoted, input_tables}
+use Rattle.core_model.specs.Picture.{FileEntries, FamilyView, Job, Turn, Core, lowest_level, tables_in, is_input, is_flush, jobs_of, all_tables}
+use Rattle.core_model.specs.RelationParts.{ForEach, IsRunning, AreApart, JobsRun, KeepsReads, HasOutputs, AreNoted, IsTurn, files_in_parts, input_tables}
+use Rattle.core_model.specs.Request.{IsRequest, NamesThere}
 use Rattle.core_model.specs.Step.{installed, without_job, turn_files, AreFresh}
-use Rattle.core_laws.proofs.Lists.{pairs_filter, pairs_across}
+use Rattle.core_laws.proofs.Lists.{pairs_filter, pairs_join}
 use Rattle.core_laws.proofs.Members.{In, each_in, filter_swap, each_by_in, Differ, hits, hits_join, once_hits, hits_once}
 use Rattle.core_laws.proofs.Keys.{and_swaps}
 
@@ -132,24 +134,39 @@ module _ (core : Core) (job : Job) (change : FamilyView → FamilyView) where
             omega arith
       ]
 
-  pub fresh_hits : (outputs : List FileEntries) → IdsDiffer core → AreFresh core outputs → ((f : ℕ) (family : FamilyView) → hits f (tables_in (change family).levels) ≤ hits f outputs + hits f (tables_in family.levels))
-      → (f : ℕ) → hits f (turn_files core) + hits f (all_tables next) ≤ 1
-  fresh_hits outputs ids fresh more f =
-      let h : hits f (outputs ++ turn_files core ++ all_tables core) ≤ 1 = once_hits (outputs ++ turn_files core ++ all_tables core) fresh f in
-      let a : hits f (outputs ++ turn_files core ++ all_tables core) ≡ hits f (outputs ++ turn_files core) + hits f (all_tables core) = hits_join f (outputs ++ turn_files core) (all_tables core) in
-      let b : hits f (outputs ++ turn_files core) ≡ hits f outputs + hits f (turn_files core) = hits_join f outputs (turn_files core) in
+  -- where tables that are there differ from one another and from the new ones, they still do with the new ones in place
+  hits_next : (others outputs : List FileEntries) → IdsDiffer core → Pairwise Differ (outputs ++ (others ++ all_tables core)) → ((f : ℕ) (family : FamilyView) → hits f (tables_in (change family).levels) ≤ hits f outputs + hits f (tables_in family.levels))
+      → (f : ℕ) → hits f others + hits f (all_tables next) ≤ 1
+  hits_next others outputs ids differ more f =
+      let h : hits f (outputs ++ (others ++ all_tables core)) ≤ 1 = once_hits (outputs ++ (others ++ all_tables core)) differ f in
+      let a : hits f (outputs ++ (others ++ all_tables core)) ≡ hits f outputs + hits f (others ++ all_tables core) = hits_join f outputs (others ++ all_tables core) in
+      let b : hits f (others ++ all_tables core) ≡ hits f others + hits f (all_tables core) = hits_join f others (all_tables core) in
       let c : hits f (all_tables next) ≤ hits f outputs + hits f (all_tables core) = changed_hits f (hits f outputs) core.families (more f) ids in
       omega arith
 
-  pub files_next : (outputs : List FileEntries) → IdsDiffer core → AreFresh core outputs → ((f : ℕ) (family : FamilyView) → hits f (tables_in (change family).levels) ≤ hits f outputs + hits f (tables_in family.levels))
+  pub files_next : (outputs : List FileEntries) → IdsDiffer core → Pairwise Differ (all_tables core) → AreFresh core outputs → ((f : ℕ) (family : FamilyView) → hits f (tables_in (change family).levels) ≤ hits f outputs + hits f (tables_in family.levels))
       → Pairwise Differ (all_tables next)
-  files_next outputs ids fresh more = hits_once (all_tables next) (λ f. let h : hits f (turn_files core) + hits f (all_tables next) ≤ 1 = fresh_hits outputs ids fresh more f in omega arith)
+  files_next outputs ids placed fresh more = hits_once (all_tables next) (λ f.
+      let h : 0 + hits f (all_tables next) ≤ 1 = hits_next [] outputs ids (pairs_join Differ outputs (all_tables core) fresh.differ placed fresh.placed) more f in omega arith)
 
-  pub turn_next : (outputs : List FileEntries) → IdsDiffer core → AreFresh core outputs → ((f : ℕ) (family : FamilyView) → hits f (tables_in (change family).levels) ≤ hits f outputs + hits f (tables_in family.levels))
+  pub turn_next : (outputs : List FileEntries) → IdsDiffer core → Pairwise Differ (turn_files core ++ all_tables core) → AreFresh core outputs → ((f : ℕ) (family : FamilyView) → hits f (tables_in (change family).levels) ≤ hits f outputs + hits f (tables_in family.levels))
       → Pairwise Differ (turn_files core ++ all_tables next)
-  turn_next outputs ids fresh more = hits_once (turn_files core ++ all_tables next) (λ f.
-      let h : hits f (turn_files core) + hits f (all_tables next) ≤ 1 = fresh_hits outputs ids fresh more f in
+  turn_next outputs ids taken fresh more = hits_once (turn_files core ++ all_tables next) (λ f.
+      let h : hits f (turn_files core) + hits f (all_tables next) ≤ 1 = hits_next (turn_files core) outputs ids (pairs_join Differ outputs (turn_files core ++ all_tables core) fresh.differ taken (apart_of_both outputs fresh.turn fresh.placed)) more f in
       let b : hits f (turn_files core ++ all_tables next) ≡ hits f (turn_files core) + hits f (all_tables next) = hits_join f (turn_files core) (all_tables next) in omega arith)
+    where
+      apart_of_both : (tables : List FileEntries) → Each (λ table. Each (Differ table) (turn_files core)) tables → Each (λ table. Each (Differ table) (all_tables core)) tables
+          → Each (λ table. Each (Differ table) (turn_files core ++ all_tables core)) tables
+      apart_of_both [] h k = tt
+      apart_of_both (table ∷ tables) h k = (each_join (Differ table) (turn_files core) (all_tables core) h.0 k.0, apart_of_both tables h.1 k.1)
+
+-- the turn's files and those in place differ
+pub taken_differ : (core : Core) → IfSome core.turn (λ turn. IsTurn core turn × NamesThere core turn.parts × IsRequest turn.parts) → Pairwise Differ (all_tables core) → Pairwise Differ (turn_files core ++ all_tables core)
+taken_differ core turn files = go core.turn turn
+  where
+    go : (o : Option Turn) → IfSome o (λ turn. IsTurn core turn × NamesThere core turn.parts × IsRequest turn.parts) → Pairwise Differ (unwrap_or (option_map (λ turn. files_in_parts turn.parts) o) [] ++ all_tables core)
+    go None t = files
+    go (Some one) t = t.0.fresh
 
 -- a table with a fresh file number is no input of a compaction that runs
 pub not_input : (family : FamilyView) (job : Job) (output : FileEntries) → map (λ table. table.file) (input_tables family job) ≡ job.files → Each (Differ output) (tables_in family.levels) → is_input job output ≡ false
@@ -166,4 +183,4 @@ outputs_differ core outputs fresh named there =
     each_as (λ output. Each (Differ output) (all_tables core)) (λ output. Each (Differ output) (tables_in named.1.levels))
     (λ output differ. each_in (λ (one : List ℕ × FamilyView). Each (Differ output) (tables_in one.1.levels)) named core.families
     (flat_map_each (Differ output) (λ (one : List ℕ × FamilyView). tables_in one.1.levels) core.families differ) there)
-    outputs (each_front (λ output. Each (Differ output) (all_tables core)) outputs (turn_files core) (pairs_across Differ (outputs ++ turn_files core) (all_tables core) fresh))
+    outputs fresh.placed

@@ -6,7 +6,7 @@ use Rattle.std.specs.List.{AllByRecursion as Each}
 use Rattle.st_base.specs.declared.entry.Entry.{Entry}
 use Rattle.st_base.proofs.Same.{same_self}
 use Rattle.st_base.specs.Range.{meet, range_of}
-use Rattle.base_laws.proofs.Lists.{each_as, map_each}
+use Rattle.base_laws.proofs.Lists.{each_as, each_back, each_front, map_each}
 use Rattle.core_model.specs.Column.{Pairwise, of_key, column, kept}
 use Rattle.core_model.specs.Compaction.{IsCompaction, cut_tables}
 use Rattle.core_model.specs.Picture.{FileEntries, Turn, Job, Core, is_flush, all_tables, runs_of}
@@ -55,23 +55,20 @@ above_files (table ∷ tables) =
     let rest = above_files tables in
     (rest.0 + table.file + 1, (omega arith, each_as (λ one. one.file < rest.0) (λ one. one.file < rest.0 + table.file + 1) (λ one lt. omega arith) tables rest.1))
 
--- the turn's files and those in place differ
-taken_differ : (core : Core) → IfSome core.turn (λ turn. IsTurn core turn × NamesThere core turn.parts × IsRequest turn.parts) → Pairwise Differ (all_tables core) → Pairwise Differ (turn_files core ++ all_tables core)
-taken_differ core turn files = go core.turn turn
-  where
-    go : (o : Option Turn) → IfSome o (λ turn. IsTurn core turn × NamesThere core turn.parts × IsRequest turn.parts) → Pairwise Differ (unwrap_or (option_map (λ turn. files_in_parts turn.parts) o) [] ++ all_tables core)
-    go None t = files
-    go (Some one) t = t.0.fresh
-
-fresh_from : (core : Core) (lists : List (List Entry)) → Pairwise Differ (turn_files core ++ all_tables core) → (first : ℕ) × AreFresh core (tables_from first lists)
-fresh_from core lists differ =
+fresh_from : (core : Core) (lists : List (List Entry)) → (first : ℕ) × AreFresh core (tables_from first lists)
+fresh_from core lists =
     let bound = above_files (turn_files core ++ all_tables core) in (
       bound.0,
-      subst (Pairwise Differ) (sym (append_assoc (tables_from bound.0 lists) (turn_files core) (all_tables core)))
-          (pairs_join Differ (tables_from bound.0 lists) (turn_files core ++ all_tables core) (differ_from bound.0 lists) differ
-          (each_as (λ table. bound.0 ≤ table.file) (λ table. Each (Differ table) (turn_files core ++ all_tables core))
-          (λ table le. each_as (λ one. one.file < bound.0) (Differ table) (λ one lt e. omega arith) (turn_files core ++ all_tables core) bound.1) (tables_from bound.0 lists) (files_from bound.0 bound.0 lists (omega arith)))),
+      record {
+        differ = differ_from bound.0 lists;
+        turn = above bound.0 (turn_files core) (each_front (λ (one : FileEntries). one.file < bound.0) (turn_files core) (all_tables core) bound.1);
+        placed = above bound.0 (all_tables core) (each_back (λ (one : FileEntries). one.file < bound.0) (turn_files core) (all_tables core) bound.1);
+      },
     )
+  where
+    above : (first : ℕ) (tables : List FileEntries) → Each (λ one. one.file < first) tables → Each (λ table. Each (Differ table) tables) (tables_from first lists)
+    above first tables low = each_as (λ table. first ≤ table.file) (λ table. Each (Differ table) tables)
+        (λ table le. each_as (λ one. one.file < first) (Differ table) (λ one lt e. omega arith) tables low) (tables_from first lists) (files_from first first lists (omega arith))
 
 runs_from : (first : ℕ) (lists : List (List Entry)) → runs_of (tables_from first lists) ≡ lists
 runs_from first [] = refl
@@ -109,7 +106,7 @@ outputs_can_be_installed core number job target entries outputs is compaction co
 pub compaction_can_be_installed : CompactionCanBeInstalled
 compaction_can_be_installed core state number job target stands is compaction =
     let found = compaction_exists job.inputs job.live job.drops (fall_weakly job.inputs (noted_outputs number job core.jobs stands.noted.outputs is).columns) in
-    let fresh = fresh_from core (cut_tables target found.0) (taken_differ core stands.turn stands.files) in
+    let fresh = fresh_from core (cut_tables target found.0) in
     let outputs = tables_from fresh.0 (cut_tables target found.0) in
     (found.0, found.1, outputs, runs_from fresh.0 (cut_tables target found.0), outputs_can_be_installed core number job target found.0 outputs is compaction found.1 (runs_from fresh.0 (cut_tables target found.0)) fresh.1)
 
@@ -150,5 +147,5 @@ flush_output_can_be_installed core state number job entries file stands is flush
 pub flush_can_be_installed : FlushCanBeInstalled
 flush_can_be_installed core state number job stands is flush =
     let found = compaction_exists job.inputs job.live job.drops (fall_weakly job.inputs (noted_outputs number job core.jobs stands.noted.outputs is).columns) in
-    let fresh = fresh_from core (found.0 ∷ []) (taken_differ core stands.turn stands.files) in
+    let fresh = fresh_from core (found.0 ∷ []) in
     (record { file = fresh.0; entries = found.0 }, found.1, flush_output_can_be_installed core state number job found.0 fresh.0 stands is flush found.1 fresh.1)

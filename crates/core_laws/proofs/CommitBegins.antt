@@ -28,8 +28,8 @@ use Rattle.core_model.specs.Level.{is_free_level}
 use Rattle.core_model.specs.Picture.{FileEntries, FamilyView, Part, Turn, Core, level_at, table_range, all_tables, lowest_level, new_view}
 use Rattle.core_model.specs.Request.{IsRequest, IsStagedTable, NamesThere}
 use Rattle.core_model.specs.RelationParts.{IsTurn, files_in_parts}
-use Rattle.core_model.specs.Step.{IsFlushed, IsFlushedFor}
-use Rattle.core_laws.specs.Underway.{HaveOtherFiles, IsReadyToPlace, GoTogether, files_left, IsUnderway, CommitBegins, CommitStands}
+use Rattle.core_model.specs.Step.{HaveOtherFiles, IsFlushed, IsFlushedFor}
+use Rattle.core_laws.specs.Underway.{IsReadyToPlace, GoTogether, files_left, IsUnderway, CommitBegins, CommitStands}
 use Rattle.core_laws.proofs.CommitEnds.{turn_ends, commit_ends}
 use Rattle.core_laws.proofs.FileColumns.{each_append}
 use Rattle.core_laws.proofs.FileJobs.{each_of, each_with}

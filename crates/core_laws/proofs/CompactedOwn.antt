@@ -184,7 +184,7 @@ module _ (core : Core) (job : Job) (outputs : List FileEntries) (own : IsSoundCo
     jobs = for_next core job change (λ family. JobsRun (lowest_level next) (jobs_of next family) family) jobs_changed (λ named here differ. jobs_same core job change own named here);
     kept = for_next core job change (λ family. Each (KeepsReads next family) (jobs_of next family)) kept_changed (λ named here differ. kept_same core job change own named here);
     views = for_next core job change IsView view_changed (λ named here differ. each_in (λ (one : List ℕ × FamilyView). IsView one.1) named core.families own.views here);
-    files = files_next core job change outputs ids outs.fresh (compacted_hits job outputs);
+    files = files_next core job change outputs ids own.files outs.fresh (compacted_hits job outputs);
     noted = noted_next core job change own.noted;
   }
 

@@ -28,7 +28,7 @@ use Rattle.core_model.specs.Pick.{joint_range}
 use Rattle.core_model.specs.Picture.{FileEntries, FamilyView, Job, Core, lowest_level, level_at, runs_of, tables_in, memories, walk, find_mark, table_range, is_input, jobs_of, running_of, all_tables}
 use Rattle.core_model.specs.Request.{IsStagedTable}
 use Rattle.core_model.specs.RelationParts.{NumbersFall, NumbersWithin, LevelsApart, IsView, HasKnownKeys, HasWritten, JobsRun, KeepsReads, IsRunning, IsCompacting}
-use Rattle.core_laws.specs.Underway.{HaveOtherFiles}
+use Rattle.core_model.specs.Step.{HaveOtherFiles}
 use Rattle.core_laws.proofs.FileFields.{rule_falls, behind_numbers_fall, file_within, file_view, walk_each, rule_reads_below, rule_reads_at, behind_reads_core, found_last, other_level}
 use Rattle.core_laws.proofs.FileFresh.{not_an_input, in_family}
 use Rattle.core_laws.proofs.FileJobs.{each_of, each_with, file_leaves_running, file_leaves_reads, behind_leaves_running, behind_leaves_reads, has_key_of}

@@ -11,7 +11,8 @@ use Rattle.base_laws.proofs.Lists.{each_join}
 use Rattle.core_model.specs.Column.{Pairwise}
 use Rattle.core_model.specs.Commit.{put_table, put_file, renumbered, RequestFile}
 use Rattle.core_model.specs.Picture.{FileEntries, FamilyView, Job, tables_in, put_by_key, is_input}
-use Rattle.core_laws.specs.Underway.{HaveOtherFiles, files_left}
+use Rattle.core_model.specs.Step.{HaveOtherFiles}
+use Rattle.core_laws.specs.Underway.{files_left}
 use Rattle.core_laws.proofs.FileColumns.{put_at, each_append}
 use Rattle.core_laws.proofs.FileJobs.{table_all, pairs_append, each_with}
 use Rattle.core_laws.proofs.FileReads.{not_below_self}

@@ -23,7 +23,8 @@ use Rattle.core_model.specs.Commit.{put_file, renumbered, RequestFile, Planned, 
 use Rattle.core_model.specs.Level.{least_within, is_free_level}
 use Rattle.core_model.specs.Picture.{FileEntries, FamilyView, Core, level_at, memories, table_range, put_by_key, all_tables, new_view}
 use Rattle.core_model.specs.RelationParts.{IsView}
-use Rattle.core_laws.specs.Underway.{HaveOtherFiles, IsReadyToPlace, GoTogether, files_left, IsUnderway, FileKeepsUnderway}
+use Rattle.core_model.specs.Step.{HaveOtherFiles}
+use Rattle.core_laws.specs.Underway.{IsReadyToPlace, GoTogether, files_left, IsUnderway, FileKeepsUnderway}
 use Rattle.core_laws.proofs.FileChanges.{numbered_changes, early_changes, behind_changes}
 use Rattle.core_laws.proofs.FileColumns.{each_append}
 use Rattle.core_laws.proofs.FileFields.{behind_last}

@@ -166,7 +166,7 @@ module _ (core : Core) (job : Job) (output : FileEntries) (own : IsSoundCore cor
     jobs = for_next core job change (λ family. JobsRun (lowest_level next) (jobs_of next family) family) jobs_changed (λ named here differ. jobs_same core job change own named here);
     kept = for_next core job change (λ family. Each (KeepsReads next family) (jobs_of next family)) kept_changed (λ named here differ. kept_same core job change own named here);
     views = for_next core job change IsView view_changed (λ named here differ. each_in (λ (one : List ℕ × FamilyView). IsView one.1) named core.families own.views here);
-    files = files_next core job change (output ∷ []) ids outs.fresh (flushed_hits output);
+    files = files_next core job change (output ∷ []) ids own.files outs.fresh (flushed_hits output);
     noted = noted_next core job change own.noted;
   }
 

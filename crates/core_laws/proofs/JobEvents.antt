@@ -29,7 +29,7 @@ use Rattle.core_model.specs.Step.{installed, changed_id, noted_job, is_there, Ar
 use Rattle.core_laws.proofs.Lists.{pairs_filter, at_set}
 use Rattle.core_laws.proofs.Members.{In, filter_swap, each_in, in_filter, found_in, pairs_of_all, pairs_map, map_pairs, Differ, hits}
 use Rattle.core_laws.proofs.InstalledLevels.{installed_at}
-use Rattle.core_laws.proofs.AfterInstall.{fewer_run, some_both, turn_next}
+use Rattle.core_laws.proofs.AfterInstall.{fewer_run, some_both, turn_next, taken_differ}
 use Rattle.core_laws.proofs.CompactedOwn.{compact_installed_own, compacted_hits}
 use Rattle.core_laws.proofs.FlushedOwn.{flush_installed_own, flushed_hits, each_without_last}
 use Rattle.core_laws.proofs.PickedOwn.{flush_picked_own, compact_picked_own, noted_some}
@@ -220,7 +220,7 @@ module _ (core : Core) (state : ModelState) (job : Job) (change : FamilyView →
     kept = own.kept;
     turn = turn_as (λ turn. IsTurn core turn × NamesThere core turn.parts × IsRequest turn.parts) (λ turn. IsTurn next turn × NamesThere next turn.parts × IsRequest turn.parts) core.turn
         (λ turn e t. (
-          record { place = t.0.place; fresh = subst (λ (tables : List FileEntries). Pairwise Differ (tables ++ all_tables next)) (files_are turn e) (turn_next core job change outputs (stands_own core state s).1 fresh more) },
+          record { place = t.0.place; fresh = subst (λ (tables : List FileEntries). Pairwise Differ (tables ++ all_tables next)) (files_are turn e) (turn_next core job change outputs (stands_own core state s).1 (taken_differ core s.turn s.files) fresh more) },
           record {
             families = subst (λ (seen : ModelState). unknown_families seen (map (λ part. part.family) turn.parts) ≡ []) (sym outline_stays) t.1.families;
             behind = subst (λ (seen : ModelState). behind_refusals seen (request_of_parts turn.parts) ≡ []) (sym outline_stays) t.1.behind;

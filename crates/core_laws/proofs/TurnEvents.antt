@@ -31,7 +31,8 @@ use Rattle.core_model.specs.Picture.{FileEntries, FamilyView, Part, Turn, Core, 
 use Rattle.core_model.specs.Request.{IsRequest, IsStagedTable}
 use Rattle.core_model.specs.Run.{IsCoreStep, Refines, IsRequestAnswer}
 use Rattle.core_model.specs.RelationParts.{HaveSame, files_in_parts}
-use Rattle.core_model.specs.Step.{RefusedOr, NoTurn, AreFresh, with_turn}
+use Rattle.core_model.specs.Step.{RefusedOr, NoTurn, AreFresh, HaveOtherFiles, with_turn}
+use Rattle.core_laws.proofs.Lists.{pairs_join}
 use Rattle.core_laws.proofs.ByPlace.{each_both}
 use Rattle.core_laws.proofs.PlainEvents.{not_now, accepted_or}
 use Rattle.core_laws.proofs.NamedLists.{Zipped}
@@ -327,7 +328,7 @@ taken_stands core state parts s turn r fresh none = stands_of (with_turn core pa
     (rest_left core (with_turn core parts) (record { families = zip_itself Stays stays_itself core.families; jobs = refl; made = refl; next = omega arith; behind = refl; last = omega arith; live = λ job began h. h }) (rest_stands core state s)) (
       record {
         place = refl;
-        fresh = subst (λ (ts : List FileEntries). Pairwise (λ one other. one.file ≡ other.file → ⊥) (ts ++ all_tables core)) (ap (λ (ts : List FileEntries). files_in_parts parts ++ ts) (no_files core.turn turn) ∙ append-nil (files_in_parts parts)) fresh;
+        fresh = pairs_join HaveOtherFiles (files_in_parts parts) (all_tables core) fresh.differ s.files fresh.placed;
       },
       record { families = nil_left u b (nil_left (u ++ b) l none); behind = nil_right u b (nil_left (u ++ b) l none) },
       r,

@@ -16,7 +16,7 @@ use Rattle.core_model.specs.Level.{is_free_level}
 use Rattle.core_model.specs.Picture.{FileEntries, Turn, Core, lowest_level, level_at, table_range, all_tables}
 use Rattle.core_model.specs.Request.{IsStagedTable}
 use Rattle.core_model.specs.Run.{EventDoes, Refines}
-use Rattle.core_model.specs.Step.{IsNow, IsFlushedFor}
+use Rattle.core_model.specs.Step.{HaveOtherFiles, IsNow, IsFlushedFor}
 
 -- a file that may be placed next
 pub record IsReadyToPlace (core : Core) (wanted : RequestFile) : Type 0 where
@@ -36,10 +36,6 @@ pub record GoTogether (one other : RequestFile) : Type 0 where
 -- the tables of the files that are left to place
 abbrev pub files_left : List RequestFile → List FileEntries
 files_left request_files = map (λ wanted. wanted.table) request_files
-
--- the two tables have different file numbers
-abbrev pub HaveOtherFiles : FileEntries → FileEntries → Type 0
-HaveOtherFiles one other = one.file ≡ other.file → ⊥
 
 -- the core stands for the state, no turn is out, and the files that are left are fresh, ready and go together
 pub record IsUnderway (core : Core) (state : ModelState) (rest : List RequestFile) : Type 0 where

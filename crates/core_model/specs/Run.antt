@@ -192,18 +192,20 @@ abbrev pub StepRefines : Type 0
 StepRefines = (core : Core) (state : ModelState) (event : Event) (answer : CoreReply) (after : Core)
     → Represents core state → IsCoreStep core event answer after → Refines core state event answer after
 
--- a run beside the model's, at one capacity
-abbrev pub RunsBeside : Core → ModelState → List Event → List CoreReply → Core → Type 0
-RunsBeside core state [] [] after = Represents core state × (after ≡ core)
-RunsBeside core state [] (answer ∷ answers) after = ⊥
-RunsBeside core state (event ∷ events) [] after = ⊥
-RunsBeside core state (event ∷ events) (answer ∷ answers) after =
+-- A run beside the model's, at one capacity. The last state is what the accepted events make of the first, one after the
+-- other: a change applies, a crash opens the contents anew, and all else leaves the state.
+abbrev pub RunsBeside : Core → ModelState → List Event → List CoreReply → Core → ModelState → Type 0
+RunsBeside core state [] [] after last = Represents core state × (after ≡ core) × (last ≡ state)
+RunsBeside core state [] (answer ∷ answers) after last = ⊥
+RunsBeside core state (event ∷ events) [] after last = ⊥
+RunsBeside core state (event ∷ events) (answer ∷ answers) after last =
     (next : Core) × Represents core state × IsCoreStep core event answer next × (next.capacity ≡ core.capacity)
     × (IsNow core event → IsModelAnswer core state event answer)
-    × RunsBeside next (next_state core state event answer) events answers after
+    × RunsBeside next (next_state core state event answer) events answers after last
 
--- for every list of events
+-- for every list of events: the core after it stands for the last state
 abbrev pub EveryRunRefines : Type 0
 EveryRunRefines = (behind : Bool) (capacity : ℕ) (events : List Event) (answers : List CoreReply) (after : Core)
     → IsCoreRun (new_core behind capacity) events answers after
-    → RunsBeside (new_core behind capacity) (new_store behind) events answers after
+    → (last : ModelState) × RunsBeside (new_core behind capacity) (new_store behind) events answers after last
+    × Represents after last

@@ -125,9 +125,16 @@ installed core job change = record core {
 abbrev pub turn_files : Core → List FileEntries
 turn_files core = unwrap_or (option_map (λ turn. files_in_parts turn.parts) core.turn) []
 
--- file numbers differ and are neither in place nor the turn's
-abbrev pub AreFresh : Core → List FileEntries → Type 0
-AreFresh core tables = Pairwise (λ one other. one.file ≡ other.file → ⊥) (tables ++ turn_files core ++ all_tables core)
+-- the two tables have different file numbers
+abbrev pub HaveOtherFiles : FileEntries → FileEntries → Type 0
+HaveOtherFiles one other = one.file ≡ other.file → ⊥
+
+-- Of new tables: their file numbers differ, and none is the turn's or in place. Nothing is said of the tables that were
+-- there.
+pub record AreFresh (core : Core) (tables : List FileEntries) : Type 0 where
+  pub differ : Pairwise HaveOtherFiles tables
+  pub turn : Each (λ table. Each (HaveOtherFiles table) (turn_files core)) tables
+  pub placed : Each (λ table. Each (HaveOtherFiles table) (all_tables core)) tables
 
 -- the entries of all these tables
 abbrev pub joined_entries : List FileEntries → List Entry
@@ -185,10 +192,19 @@ IsNow core (Crashed first) =
 
 -- ---- what it does
 
--- the first refusal, which changes nothing, or else this answer and core
+-- the first of these
+abbrev pub first_of : {X : Type 0} → List X → Option X
+first_of [] = None
+first_of (x ∷ xs) = Some x
+
+-- a refusal, which changes nothing, or where there is none this answer and core
+abbrev pub RefusedBy : Option Refusal → Core → Core → CoreReply → CoreReply → Core → Type 0
+RefusedBy None refused done reply answer after = (answer ≡ reply) × (after ≡ done)
+RefusedBy (Some refusal) refused done reply answer after = (answer ≡ Refused refusal) × (after ≡ refused)
+
+-- the first refusal decides: the others aren't looked at
 abbrev pub RefusedOr : List Refusal → Core → Core → CoreReply → CoreReply → Core → Type 0
-RefusedOr [] refused done reply answer after = (answer ≡ reply) × (after ≡ done)
-RefusedOr (refusal ∷ refusals) refused done reply answer after = (answer ≡ Refused refusal) × (after ≡ refused)
+RefusedOr refusals refused done reply answer after = RefusedBy (first_of refusals) refused done reply answer after
 
 -- the core after a snapshot
 abbrev pub with_snapshot : Core → Core

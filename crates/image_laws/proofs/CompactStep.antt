@@ -116,7 +116,7 @@ compact_is_group core state files parts at sizes number job tables is =
     (inputs_differ (lowest_level core) job core.families is.stands.files runs is.there)
     (sym (id_named parts (log_ops_of parts files.named.logs) core.last job.family core.families files.named.families is.tied.holds.families) ∙ is.there)
     (placed_new files.named sizes job.level tables (let within = level_within (lowest_level core) job core.families runs is.there in let small = lowest_within core in omega (arith, within, small)) is.new)
-    (placed_differ sizes job.level tables (apart_front tables (turn_files core) (apart_front (tables ++ turn_files core) (all_tables core) is.outputs.fresh))))
+    (placed_differ sizes job.level tables is.outputs.fresh.differ))
     (compact_ends job.family job.files (output_placements sizes job.level tables) core.last)
 
 pub compact_begun : (core : Core) (state : ModelState) (files : EngineFiles) (parts other : ImageParts) (flag : Bool) (at sizes : ℕ → ℕ) (number : ℕ) (job : Job) (tables : List FileEntries) (front more : List GroupRecord) (next : GroupRecord) → IsInstallingCompaction core state files parts number job tables
