@@ -2,6 +2,7 @@
 // changed.
 
 use crate::cases::{Ask, Held, How, Row, Store, count_illegal, is_legal};
+use std::process::Abort;
 use std::test::Fail;
 
 pub const NEW: Store = Store {
@@ -487,9 +488,9 @@ static ROWS: [Row; 22] = [
     },
 ];
 
-#[test]
-fn rows_are_legal(rt: HostRuntime) -> Result<(), Fail> {
-    for (index, row) in ROWS.iter().enumerate() {
+// Whether each of these rows is legal, and isn't with any of its changes.
+fn are_legal_alone(rt: &(impl Abort + AllocGlobal), rows: &[Row]) -> Result<(), Fail> {
+    for (index, row) in rows.iter().enumerate() {
         assert!(rt; is_legal(rt.alloc(), row, None)?, "row {index}");
         assert!(rt;
             count_illegal(rt.alloc(), row)? == row.changes.len(),
@@ -497,4 +498,9 @@ fn rows_are_legal(rt: HostRuntime) -> Result<(), Fail> {
         );
     }
     Ok(())
+}
+
+#[test]
+fn rows_are_legal(rt: HostRuntime) -> Result<(), Fail> {
+    are_legal_alone(&rt, &ROWS)
 }
