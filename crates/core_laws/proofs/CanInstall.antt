@@ -1,7 +1,6 @@
 -- Each noted job has outputs that can be installed: its compaction, cut by any target, under fresh file numbers.
-use Rattle.std.proofs.Common.{◌≡◌, ℕ, suc, ◌+◌, ◌<◌, ◌≤◌, cond, List, [], ◌∷◌, ◌++◌, length, Option, Some, None, refl, sym, ap, subst, ◌∙◌, arith, append-nil, append_assoc}
-use Rattle.std.specs.Prelude.{Bool, true, false, ◌==◌, IsTrue, IsFalse, IsSomeAnd, IfSome, find, flat_map, unwrap_or}
-use Rattle.std.specs.Option.{option_map}
+use Rattle.std.proofs.Common.{◌≡◌, ℕ, suc, ◌+◌, ◌<◌, ◌≤◌, cond, List, [], ◌∷◌, ◌++◌, length, Option, Some, refl, sym, ap, subst, ◌∙◌, arith, append-nil}
+use Rattle.std.specs.Prelude.{Bool, true, false, ◌==◌, IsTrue, IsFalse, IsSomeAnd, find, flat_map}
 use Rattle.std.specs.List.{AllByRecursion as Each}
 use Rattle.st_base.specs.declared.entry.Entry.{Entry}
 use Rattle.st_base.proofs.Same.{same_self}
@@ -9,16 +8,14 @@ use Rattle.st_base.specs.Range.{meet, range_of}
 use Rattle.base_laws.proofs.Lists.{each_as, each_back, each_front, map_each}
 use Rattle.core_model.specs.Column.{Pairwise, of_key, column, kept}
 use Rattle.core_model.specs.Compaction.{IsCompaction, cut_tables}
-use Rattle.core_model.specs.Picture.{FileEntries, Turn, Job, Core, is_flush, all_tables, runs_of}
-use Rattle.core_model.specs.Request.{IsRequest, NamesThere}
-use Rattle.core_model.specs.RelationParts.{HasOutputs, IsTurn, files_in_parts}
+use Rattle.core_model.specs.Picture.{FileEntries, Job, Core, is_flush, all_tables, runs_of}
+use Rattle.core_model.specs.RelationParts.{HasOutputs}
 use Rattle.core_model.specs.Step.{AreOutputs, AreFresh, joined_entries, turn_files}
 use Rattle.core_laws.proofs.TableParts.{Differ}
 use Rattle.core_laws.proofs.OutputsExist.{compaction_exists, fall_weakly}
 use Rattle.core_laws.proofs.Members.{map_pairs}
 use Rattle.core_laws.specs.Laws.{CompactionCanBeInstalled, FlushCanBeInstalled, FlushOutputCanBeInstalled, OutputsCanBeInstalled}
 use Rattle.core_laws.proofs.Cuts.{cut_joined, cut_some, cut_apart}
-use Rattle.core_laws.proofs.Lists.{pairs_join}
 
 -- lists of entries as tables, with file numbers from this one on
 abbrev pub tables_from : ℕ → List (List Entry) → List FileEntries

@@ -1,5 +1,5 @@
 -- TurnTaken: its refusals are the model's, and the turn that is taken stands.
-use Rattle.std.proofs.Common.{◌≡◌, ℕ, ◌+◌, ◌<◌, ◌≤◌, Bool, true, false, cond, ◌&&◌, ◌||◌, not, ◌==◌, List, [], ◌∷◌, ◌++◌, length, map, filter, Option, Some, None, option_map, unwrap_or, is_eq, refl, sym, ap, subst, ◌∙◌, inl, inr, arith, append-nil}
+use Rattle.std.proofs.Common.{◌≡◌, ℕ, ◌+◌, ◌<◌, ◌≤◌, Bool, true, false, cond, ◌&&◌, ◌||◌, not, ◌==◌, List, [], ◌∷◌, ◌++◌, length, map, filter, Option, Some, None, option_map, unwrap_or, is_eq, refl, sym, ap, subst, ◌∙◌, inl, inr, arith}
 use Rattle.std.specs.Prelude.{IsTrue, IfSome, IsSomeAnd, Contains, flat_map, filter_map, take, find, fold, min, nat_le}
 use Rattle.std.specs.Option.{option_and_then}
 use Rattle.std.specs.List.{cons_option, AllByRecursion as Each}
@@ -22,7 +22,6 @@ use Rattle.st_base.specs.Range.{keys_of, has_key, is_in_range, meet}
 use Rattle.st_model.specs.Refusals.{MayRefuse, IsFirstRefusal, step_of, refusals_or, first_refused, needs_sequence, sure_refusals, file_refusals, behind_refusals, fit_refusals, fit_refusal, exact_refusals, seen_refusals, ranges_in, lowest_live, keeps_snapshots, named_file, may_need_flush, was_written}
 use Rattle.st_model.specs.Request.{File, Argument, files_from, all_files, range_of_file, argument_of, file_of_argument, asks_behind}
 use Rattle.base_laws.proofs.Lists.{each_all, each_as, each_back, each_filter, each_flat_map, each_front, each_join, each_map, each_take}
-use Rattle.core_model.specs.Column.{Pairwise}
 use Rattle.core_model.specs.Commit.{outline, memory_key, flush_needed, flush_refusals, turn_refusals}
 use Rattle.core_model.specs.Event.{argument_of_part, arguments_after, request_of_parts, CoreReply, TurnTaken, TurnGiven}
 use Rattle.core_model.specs.Relation.{Represents}

@@ -10,16 +10,16 @@ use Rattle.base_laws.proofs.Lists.{each_as}
 use Rattle.core_model.specs.Column.{Pairwise}
 use Rattle.core_model.specs.Compaction.{with_compacted}
 use Rattle.core_model.specs.Relation.{Represents}
-use Rattle.core_model.specs.Picture.{FileEntries, FamilyView, Job, Core, lowest_level, all_tables}
+use Rattle.core_model.specs.Picture.{FileEntries, FamilyView, Job, Core, lowest_level}
 use Rattle.core_model.specs.RelationParts.{IsRunning}
-use Rattle.core_model.specs.Step.{installed, turn_files}
+use Rattle.core_model.specs.Step.{installed}
 use Rattle.manifest_edits.specs.Edits.{Placement, NamedFamily, Named, GroupRecord, has_id, has_table, AddsFile, may_place}
 use Rattle.store_image.specs.Opens.{holds_table, is_table}
 use Rattle.store_image.specs.Parts.{ImageParts, log_ops_of, file_entries}
 use Rattle.store_image.specs.Steps.{HasMore}
 use Rattle.store_image.specs.Tie.{EngineFiles, IsTiedFamily, IsUnwritten}
 use Rattle.image_laws.proofs.Compact.{compact_holds}
-use Rattle.image_laws.proofs.CompactEdits.{RunsWhere, noted_runs, inputs_named, inputs_differ, apart_front, compact_right, compact_ends}
+use Rattle.image_laws.proofs.CompactEdits.{RunsWhere, noted_runs, inputs_named, inputs_differ, compact_right, compact_ends}
 use Rattle.image_laws.proofs.CompactLevels.{levels_rise}
 use Rattle.manifest_edits.proofs.Cut.{cut_group}
 use Rattle.image_laws.proofs.Frame.{holds_frame}
