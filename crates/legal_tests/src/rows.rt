@@ -43,7 +43,8 @@ const PUT_A: Ask = Ask::Write(&[("a", Some("1"))]);
 
 const PUT_K: Ask = Ask::Write(&[("k", Some("1"))]);
 
-static ROWS: [Row; 22] = [
+// Files that are taken in.
+static FILES: [Row; 4] = [
     // A file in an empty store: its pair and its tombstone are read, and it isn't numbered.
     Row {
         store: NEW,
@@ -123,6 +124,10 @@ static ROWS: [Row; 22] = [
             (1, 1, "3 view =1 =1 -"),
         ],
     },
+];
+
+// Files and snapshots, a damaged file, and a compaction.
+static SNAPSHOTS: [Row; 4] = [
     // A damaged file in the third argument refuses the request, and no family has its keys.
     Row {
         store: NEW,
@@ -200,6 +205,10 @@ static ROWS: [Row; 22] = [
             (0, 4, "3 value 1"),
         ],
     },
+];
+
+// Files behind.
+static FILES_BEHIND: [Row; 3] = [
     // A file behind fills what no put and no tombstone covers, and no other file behind meets it.
     Row {
         store: BEHIND,
@@ -242,6 +251,29 @@ static ROWS: [Row; 22] = [
             (0, 3, "3 ingested 5@6#1"),
         ],
     },
+    // Files of one argument that meet don't go behind, and don't go without numbers.
+    Row {
+        store: BEHIND,
+        clients: &[&[
+            (
+                Ask::Take(How::Behind, &[T_X, T_Y]),
+                "0 refused 9 FilesMeet 1 1 2",
+            ),
+            (
+                Ask::Take(How::Global, &[T_X, T_Y]),
+                "0 refused 16 NeedsSequence 1 1 Files 1 2",
+            ),
+        ]],
+        changes: &[
+            (0, 0, "0 refused 9 FilesMeet 1 2 1"),
+            (0, 1, "0 refused 16 NeedsSequence 1 2 Files 1 2"),
+            (0, 1, "0 refused 16 NeedsSequence 1 1 Files 2 1"),
+        ],
+    },
+];
+
+// A disk that fails, and what is opened again.
+static STOPS: [Row; 3] = [
     // The disk fails in the second write: the store stops, and reads go on.
     Row {
         store: Store {
@@ -284,6 +316,10 @@ static ROWS: [Row; 22] = [
         clients: &[&[(Ask::Get("a"), "0 value 2")]],
         changes: &[(0, 0, "0 value 1"), (0, 0, "0 none")],
     },
+];
+
+// Clients that await one another, and a second run on the same disk.
+static CLIENTS: [Row; 3] = [
     // Two clients await one another's commands.
     Row {
         store: NEW,
@@ -306,6 +342,45 @@ static ROWS: [Row; 22] = [
             (1, 1, "2 written 1"),
         ],
     },
+    // A second run on the same disk: the key is known from the first.
+    Row {
+        store: Store {
+            behind: false,
+            was: Some(("1", 1)),
+            capacity: 1_073_741_824,
+            disk_failed: false,
+        },
+        clients: &[&[
+            (Ask::Get("a"), "0 value 1"),
+            (Ask::Take(How::Plain, &[T_A2]), "1 ingested 7@0#2"),
+            (Ask::Get("a"), "1 value 2"),
+        ]],
+        changes: &[
+            (0, 0, "0 none"),
+            (0, 1, "1 ingested 7@0#0"),
+            (0, 1, "1 ingested 7@0#1"),
+            (0, 2, "1 value 1"),
+        ],
+    },
+    // A write that would pass the capacity: each counts 34 bytes.
+    Row {
+        store: Store {
+            behind: false,
+            was: None,
+            capacity: 100,
+            disk_failed: false,
+        },
+        clients: &[&[
+            (PUT_A, "1 written 1"),
+            (PUT_K, "2 written 2"),
+            (PUT_A, "2 refused 19 StoreFull"),
+        ]],
+        changes: &[(0, 1, "1 refused 19 StoreFull"), (0, 2, "3 written 3")],
+    },
+];
+
+// Requests that are refused.
+static REFUSED: [Row; 1] = [
     // Refusals by the shape of a request, its families and its files.
     Row {
         store: NEW,
@@ -347,26 +422,10 @@ static ROWS: [Row; 22] = [
             (0, 6, "0 value 2"),
         ],
     },
-    // A second run on the same disk: the key is known from the first.
-    Row {
-        store: Store {
-            behind: false,
-            was: Some(("1", 1)),
-            capacity: 1_073_741_824,
-            disk_failed: false,
-        },
-        clients: &[&[
-            (Ask::Get("a"), "0 value 1"),
-            (Ask::Take(How::Plain, &[T_A2]), "1 ingested 7@0#2"),
-            (Ask::Get("a"), "1 value 2"),
-        ]],
-        changes: &[
-            (0, 0, "0 none"),
-            (0, 1, "1 ingested 7@0#0"),
-            (0, 1, "1 ingested 7@0#1"),
-            (0, 2, "1 value 1"),
-        ],
-    },
+];
+
+// Files that need a number, or the lowest level.
+static NUMBERS: [Row; 3] = [
     // A file that needs a number and may take none, and one that can't go to the lowest level.
     Row {
         store: NEW,
@@ -404,25 +463,29 @@ static ROWS: [Row; 22] = [
             (0, 1, "1 refused 16 NeedsSequence 1 1 Key k"),
         ],
     },
-    // Files of one argument that meet don't go behind, and don't go without numbers.
+    // A file that stands above another one's range, and isn't numbered.
     Row {
-        store: BEHIND,
+        store: NEW,
         clients: &[&[
+            (Ask::Take(How::Plain, &[T_AZ]), "1 ingested 4@6#0"),
             (
-                Ask::Take(How::Behind, &[T_X, T_Y]),
-                "0 refused 9 FilesMeet 1 1 2",
+                Ask::Take(How::Bottom, &[T_K]),
+                "1 refused 17 NotLastLevel 1 1 5 Meets a z",
             ),
-            (
-                Ask::Take(How::Global, &[T_X, T_Y]),
-                "0 refused 16 NeedsSequence 1 1 Files 1 2",
-            ),
+            (Ask::Take(How::Global, &[T_K]), "2 ingested 6@5#0"),
+            (Ask::Get("k"), "2 value 2"),
         ]],
         changes: &[
-            (0, 0, "0 refused 9 FilesMeet 1 2 1"),
-            (0, 1, "0 refused 16 NeedsSequence 1 2 Files 1 2"),
-            (0, 1, "0 refused 16 NeedsSequence 1 1 Files 2 1"),
+            (0, 1, "1 refused 17 NotLastLevel 1 1 6 Meets a z"),
+            (0, 1, "1 refused 17 NotLastLevel 1 1 5 Meets a y"),
+            (0, 2, "2 ingested 6@5#1"),
+            (0, 3, "2 none"),
         ],
     },
+];
+
+// Batches, scans, snapshots and families.
+static OTHERS: [Row; 1] = [
     // Batches, scans, snapshots, and families that are there or aren't.
     Row {
         store: NEW,
@@ -452,40 +515,6 @@ static ROWS: [Row; 22] = [
             (0, 10, "3 refused 21 FamilyExists p"),
         ],
     },
-    // A write that would pass the capacity: each counts 34 bytes.
-    Row {
-        store: Store {
-            behind: false,
-            was: None,
-            capacity: 100,
-            disk_failed: false,
-        },
-        clients: &[&[
-            (PUT_A, "1 written 1"),
-            (PUT_K, "2 written 2"),
-            (PUT_A, "2 refused 19 StoreFull"),
-        ]],
-        changes: &[(0, 1, "1 refused 19 StoreFull"), (0, 2, "3 written 3")],
-    },
-    // A file that stands above another one's range, and isn't numbered.
-    Row {
-        store: NEW,
-        clients: &[&[
-            (Ask::Take(How::Plain, &[T_AZ]), "1 ingested 4@6#0"),
-            (
-                Ask::Take(How::Bottom, &[T_K]),
-                "1 refused 17 NotLastLevel 1 1 5 Meets a z",
-            ),
-            (Ask::Take(How::Global, &[T_K]), "2 ingested 6@5#0"),
-            (Ask::Get("k"), "2 value 2"),
-        ]],
-        changes: &[
-            (0, 1, "1 refused 17 NotLastLevel 1 1 6 Meets a z"),
-            (0, 1, "1 refused 17 NotLastLevel 1 1 5 Meets a y"),
-            (0, 2, "2 ingested 6@5#1"),
-            (0, 3, "2 none"),
-        ],
-    },
 ];
 
 // Whether each of these rows is legal, and isn't with any of its changes.
@@ -500,7 +529,46 @@ fn are_legal_alone(rt: &(impl Abort + AllocGlobal), rows: &[Row]) -> Result<(), 
     Ok(())
 }
 
+fn files(rt: &(impl Abort + AllocGlobal)) -> Result<(), Fail> {
+    are_legal_alone(rt, &FILES)
+}
+
+fn snapshots(rt: &(impl Abort + AllocGlobal)) -> Result<(), Fail> {
+    are_legal_alone(rt, &SNAPSHOTS)
+}
+
+fn files_behind(rt: &(impl Abort + AllocGlobal)) -> Result<(), Fail> {
+    are_legal_alone(rt, &FILES_BEHIND)
+}
+
+fn stops(rt: &(impl Abort + AllocGlobal)) -> Result<(), Fail> {
+    are_legal_alone(rt, &STOPS)
+}
+
+fn clients(rt: &(impl Abort + AllocGlobal)) -> Result<(), Fail> {
+    are_legal_alone(rt, &CLIENTS)
+}
+
+fn refused(rt: &(impl Abort + AllocGlobal)) -> Result<(), Fail> {
+    are_legal_alone(rt, &REFUSED)
+}
+
+fn numbers(rt: &(impl Abort + AllocGlobal)) -> Result<(), Fail> {
+    are_legal_alone(rt, &NUMBERS)
+}
+
+fn others(rt: &(impl Abort + AllocGlobal)) -> Result<(), Fail> {
+    are_legal_alone(rt, &OTHERS)
+}
+
 #[test]
 fn rows_are_legal(rt: HostRuntime) -> Result<(), Fail> {
-    are_legal_alone(&rt, &ROWS)
+    files(&rt)?;
+    snapshots(&rt)?;
+    files_behind(&rt)?;
+    stops(&rt)?;
+    clients(&rt)?;
+    refused(&rt)?;
+    numbers(&rt)?;
+    others(&rt)
 }
