@@ -1,0 +1,8 @@
+mod Rests
+mod Trees
+mod Steps
+mod Moves
+mod Spots
+mod Scans
+mod Reaching
+mod Readable
