@@ -1,5 +1,5 @@
 -- What each entry keeps when one is put.
-use Rattle.std.proofs.Common.{◌≡◌, ℕ, ◌+◌, ◌≤◌, Bool, true, false, cond, List, [], ◌∷◌, arith}
+use Rattle.std.proofs.Common.{ℕ, ◌+◌, ◌≤◌, Bool, true, false, cond, List, [], ◌∷◌, arith}
 use Rattle.std.specs.List.{AllByRecursion as Each}
 use Rattle.st_base.specs.Order.{comes_before}
 use Rattle.st_base.specs.declared.entry.Entry.{Entry}
