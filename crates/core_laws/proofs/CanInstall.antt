@@ -17,10 +17,10 @@ use Rattle.core_laws.proofs.Members.{map_pairs}
 use Rattle.core_laws.specs.Laws.{CompactionCanBeInstalled, FlushCanBeInstalled, FlushOutputCanBeInstalled, OutputsCanBeInstalled}
 use Rattle.core_laws.proofs.Cuts.{cut_joined, cut_some, cut_apart}
 
--- lists of entries as tables, with file numbers from this one on
+-- lists of entries as tables of no length, with file numbers from this one on
 abbrev pub tables_from : ℕ → List (List Entry) → List FileEntries
 tables_from first [] = []
-tables_from first (entries ∷ more) = record { file = first; entries = entries } ∷ tables_from (suc first) more
+tables_from first (entries ∷ more) = record { file = first; length = 0; entries = entries } ∷ tables_from (suc first) more
 
 joined_from : (first : ℕ) (lists : List (List Entry)) → joined_entries (tables_from first lists) ≡ flat_map (λ one. one) lists
 joined_from first [] = refl
@@ -127,10 +127,10 @@ has_one entry entries = subst (λ b. 1 ≤ length (cond b (entry ∷ of_key entr
 
 -- the output of a noted flush can be installed
 pub flush_output_can_be_installed : FlushOutputCanBeInstalled
-flush_output_can_be_installed core state number job entries file stands is flush compacted_is fresh =
+flush_output_can_be_installed core state number job entries file size stands is flush compacted_is fresh =
     let facts = (noted_outputs number job core.jobs stands.noted.outputs is).flush flush in
     let one = one_input job.inputs facts.0 facts.1 in
-    subst (λ (o : Option Job). IsSomeAnd o (λ one. IsTrue (is_flush one) × AreOutputs core one (record { file = file; entries = entries } ∷ []))) (sym is) (
+    subst (λ (o : Option Job). IsSomeAnd o (λ one. IsTrue (is_flush one) × AreOutputs core one (record { file = file; length = size; entries = entries } ∷ []))) (sym is) (
       flush,
       record {
         joined = subst (IsCompaction job.inputs job.live job.drops) (sym (append-nil entries)) compacted_is;
@@ -145,4 +145,4 @@ pub flush_can_be_installed : FlushCanBeInstalled
 flush_can_be_installed core state number job stands is flush =
     let found = compaction_exists job.inputs job.live job.drops (fall_weakly job.inputs (noted_outputs number job core.jobs stands.noted.outputs is).columns) in
     let fresh = fresh_from core (found.0 ∷ []) in
-    (record { file = fresh.0; entries = found.0 }, found.1, flush_output_can_be_installed core state number job found.0 fresh.0 stands is flush found.1 fresh.1)
+    (record { file = fresh.0; length = 0; entries = found.0 }, found.1, flush_output_can_be_installed core state number job found.0 fresh.0 0 stands is flush found.1 fresh.1)

@@ -191,9 +191,9 @@ added core first f g v r = by (has_memory f) refl r.1
   where
     by : (b : Bool) → has_memory f ≡ b → MatchBool b (IsFlushedByCrash (first + rank core f.1.id) f.1 g.1) (g.1 ≡ f.1)
         → (tables_in g.1.levels ≡ tables_in f.1.levels) ⊎ ((t : FileEntries) × (tables_in g.1.levels ≡ t ∷ tables_in f.1.levels) × (t.file ≡ first + rank core f.1.id) × (has_memory f ≡ true))
-    by true e h = inr (record { file = first + rank core f.1.id; entries = h.entries }, ap (λ (view : FamilyView). tables_in view.levels) h.view ∙ front f.1.levels v.levels, refl, e)
+    by true e h = inr (record { file = first + rank core f.1.id; length = h.length; entries = h.entries }, ap (λ (view : FamilyView). tables_in view.levels) h.view ∙ front f.1.levels v.levels, refl, e)
       where
-        front : (levels : List (List FileEntries)) → length levels ≡ 7 → tables_in (set levels 0 (record { file = first + rank core f.1.id; entries = h.entries } ∷ unwrap_or (slice_get levels 0) [])) ≡ record { file = first + rank core f.1.id; entries = h.entries } ∷ tables_in levels
+        front : (levels : List (List FileEntries)) → length levels ≡ 7 → tables_in (set levels 0 (record { file = first + rank core f.1.id; length = h.length; entries = h.entries } ∷ unwrap_or (slice_get levels 0) [])) ≡ record { file = first + rank core f.1.id; length = h.length; entries = h.entries } ∷ tables_in levels
         front [] n = absurd (omega arith)
         front (level ∷ levels) n = refl
     by false e h = inl (ap (λ (view : FamilyView). tables_in view.levels) h)

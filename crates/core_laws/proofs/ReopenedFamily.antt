@@ -70,7 +70,7 @@ reopened_with : (file : ℕ) (family other : FamilyView) → IsView family → h
 reopened_with file family other v has r = subst (Reopened family) (sym r.view) (at family.levels v.levels refl)
   where
     made : List (List FileEntries) → FamilyView
-    made levels = record { id = family.id; mem = []; sealed = []; levels = set levels 0 (record { file = file; entries = r.entries } ∷ unwrap_or (slice_get levels 0) []) }
+    made levels = record { id = family.id; mem = []; sealed = []; levels = set levels 0 (record { file = file; length = r.length; entries = r.entries } ∷ unwrap_or (slice_get levels 0) []) }
 
     each_joined : (P : Entry → Type 0) → Each (Each P) (memories family) → Each P r.entries
     each_joined P h = from_columns P r.entries (λ key. subst (Each P) (sym (r.joined.columns key)) (column_each P key (memories family) h))

@@ -15,7 +15,7 @@ abbrev entry : ℕ → ℕ → Entry
 entry key number = record { key = key ∷ []; number = number; mark = Gone }
 
 abbrev table : ℕ → ℕ → ℕ → FileEntries
-table file key number = record { file = file; entries = entry key number ∷ [] }
+table file key number = record { file = file; length = 4096; entries = entry key number ∷ [] }
 
 -- the key 1 at levels 1 and 2, the key 5 at levels 2 and 3
 abbrev family : FamilyView

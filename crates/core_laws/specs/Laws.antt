@@ -43,10 +43,10 @@ CompactionCanBeInstalled = (core : Core) (state : ModelState) (number : ℕ) (jo
 -- the compaction of a noted flush, as one table under a fresh file number can be installed
 abbrev pub FlushOutputCanBeInstalled : Type 0
 FlushOutputCanBeInstalled = (core : Core) (state : ModelState) (number : ℕ) (job : Job) (entries : List Entry)
-    (file : ℕ) → Represents core state → noted_job core number ≡ Some job → IsTrue (is_flush job)
+    (file length : ℕ) → Represents core state → noted_job core number ≡ Some job → IsTrue (is_flush job)
     → IsCompaction job.inputs job.live job.drops entries
-    → AreFresh core (record { file = file; entries = entries } ∷ [])
-    → IsNow core (FlushInstalled number (record { file = file; entries = entries }))
+    → AreFresh core (record { file = file; length = length; entries = entries } ∷ [])
+    → IsNow core (FlushInstalled number (record { file = file; length = length; entries = entries }))
 
 -- each noted flush has such an output
 abbrev pub FlushCanBeInstalled : Type 0

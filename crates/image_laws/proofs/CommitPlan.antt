@@ -27,7 +27,7 @@ use Rattle.core_laws.specs.Underway.{files_left}
 use Rattle.core_laws.proofs.CommitBegins.{all_pieces_tables, place_piece}
 use Rattle.manifest_edits.specs.Edits.{Placement, Last, NamedFamily, Named, has_id, edited_all, is_last_edit, ends_with_last}
 use Rattle.store_image.specs.Opens.{holds_table, is_table}
-use Rattle.store_image.specs.Parts.{ImageParts, entries_acting, file_entries, has_twice}
+use Rattle.store_image.specs.Parts.{HasTableFile, ImageParts, entries_acting, file_entries, has_twice}
 use Rattle.store_image.specs.Tie.{IsTiedFamily}
 use Rattle.image_laws.proofs.Committed.{AreEdits}
 use Rattle.image_laws.proofs.RightEdits.{IsNewTable, FilesDiffer, tables_added, last_ends}
@@ -135,9 +135,9 @@ plan_pairs core R parts h = placed_pairs R core (request_files core parts) (subs
 -- ---- the edits
 
 -- the staged file is on the disk with its entries, as an own table or an external one
-pub record IsStagedFile (parts : ImageParts) (sizes : ℕ → ℕ) (table : FileEntries) : Type 0 where
+pub record IsStagedFile (parts : ImageParts) (table : FileEntries) : Type 0 where
   pub staged : IsStagedTable table
-  pub found : parts.table table.file ≡ Some (record { length = sizes table.file; entries = Some table.entries })
+  pub found : HasTableFile parts table
 
 -- ---- a staged file under a number
 
@@ -199,19 +199,19 @@ itself n = grind arith
 
 -- ---- they place what the plan places
 
-pub edits_are : (parts : ImageParts) (sizes : ℕ → ℕ) (cs : List (List ℕ × FamilyView)) (more : List Planned) → FamiliesApart cs → Each (λ planned. IsPlan cs planned × IsStagedFile parts sizes planned.wanted.table) more → AreEdits parts cs more (file_edits sizes cs more)
-edits_are parts sizes cs [] apart h = tt
-edits_are parts sizes cs (planned ∷ more) apart h = (
+pub edits_are : (parts : ImageParts) (cs : List (List ℕ × FamilyView)) (more : List Planned) → FamiliesApart cs → Each (λ planned. IsPlan cs planned × IsStagedFile parts planned.wanted.table) more → AreEdits parts cs more (file_edits cs more)
+edits_are parts cs [] apart h = tt
+edits_are parts cs (planned ∷ more) apart h = (
   record {
     names = subst (λ id. Each (λ here. same here.0 planned.wanted.part.family ≡ (id == here.1.id)) cs) (sym (ap (λ found. unwrap_or (option_map (λ (family : FamilyView). family.id) found) 0) h.0.0.there)) (names_family cs planned.wanted.part.family h.0.0.family apart h.0.0.there);
     small = h.0.0.small;
     level = refl;
-    table = ap {B = FileEntries} (λ found. record { file = planned.wanted.table.file; entries = entries_acting planned.number (file_entries found) }) h.0.1.found
-        ∙ ap {B = FileEntries} (λ entries. record { file = planned.wanted.table.file; entries = entries }) (acting_under planned.number planned.wanted.table.entries h.0.1.staged.zero);
-    sound = ap (holds_table (record { level = planned.level; file = planned.wanted.table.file; length = sizes planned.wanted.table.file; number = planned.number })) h.0.1.found
-        ∙ ap (λ b. b && is_table planned.number planned.wanted.table.entries) (itself (sizes planned.wanted.table.file)) ∙ staged_table planned.number planned.wanted.table h.0.1.staged;
+    table = ap {B = FileEntries} (λ found. record { file = planned.wanted.table.file; length = planned.wanted.table.length; entries = entries_acting planned.number (file_entries found) }) h.0.1.found
+        ∙ ap {B = FileEntries} (λ entries. record { file = planned.wanted.table.file; length = planned.wanted.table.length; entries = entries }) (acting_under planned.number planned.wanted.table.entries h.0.1.staged.zero);
+    sound = ap (holds_table (record { level = planned.level; file = planned.wanted.table.file; length = planned.wanted.table.length; number = planned.number })) h.0.1.found
+        ∙ ap (λ b. b && is_table planned.number planned.wanted.table.entries) (itself planned.wanted.table.length) ∙ staged_table planned.number planned.wanted.table h.0.1.staged;
   },
-  edits_are parts sizes cs more apart h.1,
+  edits_are parts cs more apart h.1,
 )
 
 -- ---- they are right
@@ -232,16 +232,16 @@ id_there parts ops last (c ∷ cs) (n ∷ ns) name family tied e = step (is_eq (
     step true e rest = ap (λ m. (m == family.id) || has_id family.id ns) (tied.0.id ∙ ap (λ (v : FamilyView). v.id) (some_is e)) ∙ ap (λ b. b || has_id family.id ns) (itself family.id)
     step false e rest = ap (λ b. (n.1.id == family.id) || b) (rest e) ∙ right (n.1.id == family.id)
 
-edits_new : (parts : ImageParts) (ops : List LogOp) (bound : ℕ) (named : Named) (sizes : ℕ → ℕ) (cs : List (List ℕ × FamilyView)) (more : List Planned) → AllZip (IsTiedFamily parts ops bound) cs named.families
-    → Each (λ planned. IsPlan cs planned × IsNewFile named planned.wanted.table) more → Each (IsNewTable named) (file_edits sizes cs more)
-edits_new parts ops bound named sizes cs [] tied h = tt
-edits_new parts ops bound named sizes cs (planned ∷ more) tied h = (
+edits_new : (parts : ImageParts) (ops : List LogOp) (bound : ℕ) (named : Named) (cs : List (List ℕ × FamilyView)) (more : List Planned) → AllZip (IsTiedFamily parts ops bound) cs named.families
+    → Each (λ planned. IsPlan cs planned × IsNewFile named planned.wanted.table) more → Each (IsNewTable named) (file_edits cs more)
+edits_new parts ops bound named cs [] tied h = tt
+edits_new parts ops bound named cs (planned ∷ more) tied h = (
   record {
     there = ap (λ id. has_id id named.families) (ap (λ found. unwrap_or (option_map (λ (family : FamilyView). family.id) found) 0) h.0.0.there) ∙ id_there parts ops bound cs named.families planned.wanted.part.family h.0.0.family tied h.0.0.there;
     new = h.0.1.new;
     above = ap (λ b. b && nat_le planned.level 6) h.0.1.above ∙ le-leb planned.level 6 h.0.0.small;
   },
-  edits_new parts ops bound named sizes cs more tied h.1,
+  edits_new parts ops bound named cs more tied h.1,
 )
 
 differs : (n m : ℕ) → (n ≡ m → ⊥) → (n == m) ≡ false
@@ -251,11 +251,11 @@ differs n m h = go (n == m) refl
     go true e = absurd (h (eqb-true n m e))
     go false e = e
 
-edits_differ : (sizes : ℕ → ℕ) (cs : List (List ℕ × FamilyView)) (more : List Planned) → Pairwise (λ one other. one.wanted.table.file ≡ other.wanted.table.file → ⊥) more → FilesDiffer (file_edits sizes cs more)
-edits_differ sizes cs [] h = tt
-edits_differ sizes cs (planned ∷ more) h = (each more h.0, edits_differ sizes cs more h.1)
+edits_differ : (cs : List (List ℕ × FamilyView)) (more : List Planned) → Pairwise (λ one other. one.wanted.table.file ≡ other.wanted.table.file → ⊥) more → FilesDiffer (file_edits cs more)
+edits_differ cs [] h = tt
+edits_differ cs (planned ∷ more) h = (each more h.0, edits_differ cs more h.1)
   where
-    each : (more : List Planned) → Each (λ other. planned.wanted.table.file ≡ other.wanted.table.file → ⊥) more → Each (λ (other : ℕ × Placement). (planned.wanted.table.file == other.1.file) ≡ false) (file_edits sizes cs more)
+    each : (more : List Planned) → Each (λ other. planned.wanted.table.file ≡ other.wanted.table.file → ⊥) more → Each (λ (other : ℕ × Placement). (planned.wanted.table.file == other.1.file) ≡ false) (file_edits cs more)
     each [] h = tt
     each (other ∷ more) h = (differs planned.wanted.table.file other.wanted.table.file h.0, each more h.1)
 
@@ -266,10 +266,10 @@ commit_ends edits last = last_ends (map add_table_edit edits) last (none edits)
     none [] = tt
     none (edit ∷ edits) = (refl, none edits)
 
-pub commit_right : (parts : ImageParts) (ops : List LogOp) (bound : ℕ) (named : Named) (sizes : ℕ → ℕ) (core : Core) (request : List Part) → AllZip (IsTiedFamily parts ops bound) core.families named.families
+pub commit_right : (parts : ImageParts) (ops : List LogOp) (bound : ℕ) (named : Named) (core : Core) (request : List Part) → AllZip (IsTiedFamily parts ops bound) core.families named.families
     → Each (λ part. is_some (value_at core.families part.family) ≡ true) request → Each (IsNewFile named) (files_in_parts request) → Pairwise (λ one other. one.file ≡ other.file → ⊥) (files_in_parts request) → (last : ℕ)
-    → edited_all named (commit_edits (file_edits sizes core.families (plan core request)) last) ≡ Some (record { families = with_files_named (file_edits sizes core.families (plan core request)) named.families; logs = named.logs; last = max named.last last })
-commit_right parts ops bound named sizes core request tied there new differ last =
-    tables_added named (file_edits sizes core.families (plan core request)) (Last last ∷ [])
-    (edits_new parts ops bound named sizes core.families (plan core request) tied (plan_each core (IsNewFile named) request there new))
-    (edits_differ sizes core.families (plan core request) (plan_pairs core (λ one other. one.file ≡ other.file → ⊥) request differ))
+    → edited_all named (commit_edits (file_edits core.families (plan core request)) last) ≡ Some (record { families = with_files_named (file_edits core.families (plan core request)) named.families; logs = named.logs; last = max named.last last })
+commit_right parts ops bound named core request tied there new differ last =
+    tables_added named (file_edits core.families (plan core request)) (Last last ∷ [])
+    (edits_new parts ops bound named core.families (plan core request) tied (plan_each core (IsNewFile named) request there new))
+    (edits_differ core.families (plan core request) (plan_pairs core (λ one other. one.file ≡ other.file → ⊥) request differ))

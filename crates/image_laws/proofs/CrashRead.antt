@@ -162,13 +162,14 @@ family_as first n m one other after ranked is h = (sym is.name ∙ h.0, subst (�
   where
     go : (b : Bool) → has_memory one ≡ b → MatchBool b (IsFlushedByCrash (first + n) one.1 after.1) (after.1 ≡ one.1) → MatchBool b (IsFlushedByCrash (first + m) other.1 after.1) (after.1 ≡ other.1)
     go true e flushed = record {
+      length = flushed.length;
       entries = flushed.entries;
       joined = record { ordered = flushed.joined.ordered; columns = λ key. flushed.joined.columns key ∙ is.memory key };
       view = flushed.view ∙ λ i. record {
         id = is.id i;
         mem = [];
         sealed = [];
-        levels = set (is.levels i) 0 (record { file = first + ranked i; entries = flushed.entries } ∷ unwrap_or (slice_get (is.levels i) 0) []);
+        levels = set (is.levels i) 0 (record { file = first + ranked i; length = flushed.length; entries = flushed.entries } ∷ unwrap_or (slice_get (is.levels i) 0) []);
       };
     }
     go false e same_view = same_view ∙ is.none e

@@ -52,7 +52,7 @@ abbrev other : ImageParts
 other = image ((2, false) ∷ (8, false) ∷ []) new_edits
 
 abbrev levels : List (List FileEntries)
-levels = (record { file = 7; entries = entries } ∷ []) ∷ [] ∷ [] ∷ [] ∷ [] ∷ [] ∷ [] ∷ []
+levels = (record { file = 7; length = 10; entries = entries } ∷ []) ∷ [] ∷ [] ∷ [] ∷ [] ∷ [] ∷ [] ∷ []
 
 abbrev read : OpenedImage
 read = record { behind = false; last = 1; families = (default_family, record { id = 0; counted = []; levels = levels }) ∷ [] }

@@ -9,7 +9,8 @@ use Rattle.st_base.specs.declared.entry.Mark.TheVariants.{Put}
 use Rattle.core_model.specs.Column.{of_key}
 use Rattle.core_model.specs.Compaction.{IsJoined}
 use Rattle.core_model.specs.Event.{Crashed, Done}
-use Rattle.core_model.specs.Picture.{Core, FileEntries}
+use Rattle.core_model.specs.Crash.{IsFlushedByCrash}
+use Rattle.core_model.specs.Picture.{Core, FamilyView, FileEntries}
 use Rattle.core_model.specs.Run.{IsCoreStep}
 use Rattle.manifest_edits.specs.Edits.{Edit, AddFamily, AddTable, Flushed, Last, AddLog, Placement, Named}
 use Rattle.store_image.specs.Every.{IsOpenedAs, IsReopened, IsDecoded, OpeningEnds, TableIsNew}
@@ -23,10 +24,10 @@ use Rattle.manifest_edits.specs.Logs.{LogReading, LogFound, LogOp, records_in, l
 use Rattle.core_model.specs.RelationParts.{IsSortedRun, FitsSizes}
 
 pub table_is_new : TableIsNew
-table_is_new parts file size before old new entries joined tables at = record {
-  size = size;
+table_is_new parts file before after old new entries joined flushed tables at = record {
+  flushed = flushed;
   tables = tables;
-  entries = λ others also. at ∙ ap {B = FileEntries} (λ l. record { file = file; entries = l }) (joined_is_one _ entries others joined also);
+  written = at ∙ ap {B = FileEntries} (λ l. record { file = file; length = flushed.length; entries = l }) (joined_is_one _ entries flushed.entries joined flushed.joined);
 }
 
 -- ---- an image with an operation
@@ -106,13 +107,22 @@ decoded = record { tables = λ file. by (file == 8); logs = λ file. of_log (fil
 is_joined : IsJoined (entries ∷ []) entries
 is_joined = record { ordered = refl; columns = λ key. sym (append-nil (of_key key entries)) }
 
+abbrev family_before : List ℕ × FamilyView
+family_before = (default_family, record { id = 0; mem = entries; sealed = []; levels = [] ∷ [] ∷ [] ∷ [] ∷ [] ∷ [] ∷ [] ∷ [] })
+
+abbrev family_after : List ℕ × FamilyView
+family_after = (default_family, record { id = 0; mem = []; sealed = []; levels = (record { file = 8; length = 10; entries = entries } ∷ []) ∷ [] ∷ [] ∷ [] ∷ [] ∷ [] ∷ [] ∷ [] })
+
+abbrev flushed : IsFlushedByCrash 8 family_before.1 family_after.1
+flushed = record { length = 10; entries = entries; joined = is_joined; view = refl }
+
 abbrev after : Core
 after = record (recovered_core 1000 read) {
-  families = (default_family, record { id = 0; mem = []; sealed = []; levels = (record { file = 8; entries = entries } ∷ []) ∷ [] ∷ [] ∷ [] ∷ [] ∷ [] ∷ [] ∷ [] }) ∷ [];
+  families = family_after ∷ [];
 }
 
 step : IsCoreStep (recovered_core 1000 read) (Crashed 8) Done after
-step = inl ((tt, omega arith), (refl, record { families = after.families; reopened = ((refl, record { entries = entries; joined = is_joined; view = refl }), tt); core_after = refl }))
+step = inl ((tt, omega arith), (refl, record { families = after.families; reopened = ((refl, flushed), tt); core_after = refl }))
 
 abbrev files : EngineFiles
 files = record { manifest = 9; log = 10; older_logs = []; root = (2, false) ∷ []; root_last = (9, false); named = new_named }
@@ -135,7 +145,7 @@ reopened = record {
       id = refl;
       flushed = refl;
       sound = (refl, tt);
-      tables = table_is_new other 8 10 (default_family, record { id = 0; mem = entries; sealed = []; levels = [] ∷ [] ∷ [] ∷ [] ∷ [] ∷ [] ∷ [] ∷ [] }) (default_family, record { id = 0; flushed = 0; tables = [] }) (default_family, record { id = 0; flushed = 0; tables = placed ∷ [] }) entries is_joined refl refl;
+      tables = table_is_new other 8 family_before family_after (default_family, record { id = 0; flushed = 0; tables = [] }) (default_family, record { id = 0; flushed = 0; tables = placed ∷ [] }) entries is_joined flushed refl refl;
     },
     tt,
   );

@@ -15,7 +15,7 @@ use Rattle.core_model.specs.RelationParts.{IsRunning, IsFlush, IsView}
 use Rattle.core_model.specs.Step.{installed}
 use Rattle.manifest_edits.specs.Edits.{Placement, AddTable, Flushed, Last, DropLog, NamedFamily, Named, GroupRecord, has_id, has_table, has_log, edited, edited_all, with_table, with_flushed_number, is_last_edit, ends_with_last, AddsFile, may_place}
 use Rattle.store_image.specs.Opens.{holds_table, is_table}
-use Rattle.store_image.specs.Parts.{ImageParts, log_ops_of, file_entries, counts_for}
+use Rattle.store_image.specs.Parts.{HasTableFile, ImageParts, log_ops_of, file_entries, counts_for}
 use Rattle.store_image.specs.Steps.{HasMore, is_spent, with_flush, flushed_named, without_logs, greatest_of}
 use Rattle.store_image.specs.Tie.{EngineFiles, IsUnwritten}
 use Rattle.image_laws.proofs.CompactEdits.{noted_runs}
@@ -58,19 +58,19 @@ one_input [] e = absurd (omega arith)
 one_input (run ∷ []) e = refl
 one_input (run ∷ other ∷ runs) e = absurd (omega arith)
 
-pub flush_is_group : (core : Core) (state : ModelState) (files : EngineFiles) (parts : ImageParts) (at sizes : ℕ → ℕ) (number : ℕ) (job : Job) (output : FileEntries) (gone : List ℕ) → IsInstallingFlush core state files parts sizes number job output gone
-    → IsGroup files.named (flush_named sizes core job output gone files.named) (flush_group at sizes core job output gone)
-flush_is_group core state files parts at sizes number job output gone is =
-    cut_group files.named (flush_named sizes core job output gone files.named) at (flush_edits job.family (flush_placement output.file (sizes output.file)) (greatest_of (flushed_memory job)) gone core.last)
-    (flush_right files.named job.family (flush_placement output.file (sizes output.file)) (greatest_of (flushed_memory job)) gone core.last
+pub flush_is_group : (core : Core) (state : ModelState) (files : EngineFiles) (parts : ImageParts) (at : ℕ → ℕ) (number : ℕ) (job : Job) (output : FileEntries) (gone : List ℕ) → IsInstallingFlush core state files parts number job output gone
+    → IsGroup files.named (flush_named core job output gone files.named) (flush_group at core job output gone)
+flush_is_group core state files parts at number job output gone is =
+    cut_group files.named (flush_named core job output gone files.named) at (flush_edits job.family (flush_placement output.file output.length) (greatest_of (flushed_memory job)) gone core.last)
+    (flush_right files.named job.family (flush_placement output.file output.length) (greatest_of (flushed_memory job)) gone core.last
     (sym (id_named parts (log_ops_of parts files.named.logs) core.last job.family core.families files.named.families is.tied.holds.families) ∙ is.there) is.new.new (ap (λ b. b && nat_le 0 6) is.new.above) is.logs is.differ)
-    (flush_ends job.family (flush_placement output.file (sizes output.file)) (greatest_of (flushed_memory job)) gone core.last)
+    (flush_ends job.family (flush_placement output.file output.length) (greatest_of (flushed_memory job)) gone core.last)
 
-pub flush_begun_opens : (core : Core) (state : ModelState) (files : EngineFiles) (parts other : ImageParts) (flag : Bool) (at sizes : ℕ → ℕ) (number : ℕ) (job : Job) (output : FileEntries) (gone : List ℕ) (front more : List GroupRecord) (next : GroupRecord)
-    → IsInstallingFlush core state files parts sizes number job output gone → flush_group at sizes core job output gone ≡ front ++ next ∷ more → HasMore files parts other front → IsImageOf core state files front other flag
-flush_begun_opens core state files parts other flag at sizes number job output gone front more next is cut has =
-    step_begun core state files (flush_named sizes core job output gone files.named) parts other flag front more next is.stands is.tied
-    (subst (IsGroup files.named (flush_named sizes core job output gone files.named)) cut (flush_is_group core state files parts at sizes number job output gone is)) has
+pub flush_begun_opens : (core : Core) (state : ModelState) (files : EngineFiles) (parts other : ImageParts) (flag : Bool) (at : ℕ → ℕ) (number : ℕ) (job : Job) (output : FileEntries) (gone : List ℕ) (front more : List GroupRecord) (next : GroupRecord)
+    → IsInstallingFlush core state files parts number job output gone → flush_group at core job output gone ≡ front ++ next ∷ more → HasMore files parts other front → IsImageOf core state files front other flag
+flush_begun_opens core state files parts other flag at number job output gone front more next is cut has =
+    step_begun core state files (flush_named core job output gone files.named) parts other flag front more next is.stands is.tied
+    (subst (IsGroup files.named (flush_named core job output gone files.named)) cut (flush_is_group core state files parts at number job output gone is)) has
 
 -- ---- with all records
 
@@ -81,14 +81,14 @@ some_table : (entries : List Entry) → 1 ≤ length entries → IsTrue (is_tabl
 some_table [] some = absurd (omega arith)
 some_table (entry ∷ entries) some = refl
 
-view_flushes : (parts : ImageParts) (sizes : ℕ → ℕ) (job : Job) (output : FileEntries) (family : FamilyView) → IsFlush family job → IsView family → 1 ≤ length output.entries
-    → parts.table output.file ≡ Some (record { length = sizes output.file; entries = Some output.entries }) → Flushes parts family (flushed_memory job) (flush_placement output.file (sizes output.file)) output
-view_flushes parts sizes job output family runs view some found = record {
+view_flushes : (parts : ImageParts) (job : Job) (output : FileEntries) (family : FamilyView) → IsFlush family job → IsView family → 1 ≤ length output.entries
+    → HasTableFile parts output → Flushes parts family (flushed_memory job) (flush_placement output.file output.length) output
+view_flushes parts job output family runs view some found = record {
   oldest_is = last_is;
   some = (each_back (λ entries. 1 ≤ length entries) (without_last family.sealed) (flushed_memory job ∷ []) (subst (Each (λ entries. 1 ≤ length entries)) last_is view.sealed)).0;
   at_zero = refl;
-  table = ap {B = FileEntries} (λ found. record { file = output.file; entries = file_entries found }) found;
-  sound = ap (holds_table (flush_placement output.file (sizes output.file))) found ∙ ap (λ b. b && is_table 0 output.entries) (itself (sizes output.file)) ∙ some_table output.entries some;
+  table = ap {B = FileEntries} (λ found. record { file = output.file; length = output.length; entries = file_entries found }) found;
+  sound = ap (holds_table (flush_placement output.file output.length)) found ∙ ap (λ b. b && is_table 0 output.entries) (itself output.length) ∙ some_table output.entries some;
 }
   where
     last_is : family.sealed ≡ without_last family.sealed ++ flushed_memory job ∷ []
@@ -129,26 +129,26 @@ pub drops_add : (P : ℕ → Type 0) (gone : List ℕ) (last : ℕ) → Each (Ad
 drops_add P [] last = (tt, tt)
 drops_add P (file ∷ gone) last = (tt, drops_add P gone last)
 
-pub flush_opens : (core : Core) (state : ModelState) (files : EngineFiles) (parts other : ImageParts) (flag : Bool) (at sizes : ℕ → ℕ) (number : ℕ) (job : Job) (output : FileEntries) (gone : List ℕ) → IsInstallingFlush core state files parts sizes number job output gone
-    → Represents (installed core job (flushed_view output)) state → other.table output.file ≡ Some (record { length = sizes output.file; entries = Some output.entries })
-    → HasMore files parts other (flush_group at sizes core job output gone)
-    → IsImageOf (installed core job (flushed_view output)) state (flush_files sizes core job output gone files) [] other flag
-flush_opens core state files parts other flag at sizes number job output gone is stands found has =
-    step_written core (installed core job (flushed_view output)) state files (flush_files sizes core job output gone files) parts other flag (flush_group at sizes core job output gone) stands is.tied refl
-    (flush_is_group core state files parts at sizes number job output gone is) has refl
+pub flush_opens : (core : Core) (state : ModelState) (files : EngineFiles) (parts other : ImageParts) (flag : Bool) (at : ℕ → ℕ) (number : ℕ) (job : Job) (output : FileEntries) (gone : List ℕ) → IsInstallingFlush core state files parts number job output gone
+    → Represents (installed core job (flushed_view output)) state → HasTableFile other output
+    → HasMore files parts other (flush_group at core job output gone)
+    → IsImageOf (installed core job (flushed_view output)) state (flush_files core job output gone files) [] other flag
+flush_opens core state files parts other flag at number job output gone is stands found has =
+    step_written core (installed core job (flushed_view output)) state files (flush_files core job output gone files) parts other flag (flush_group at core job output gone) stands is.tied refl
+    (flush_is_group core state files parts at number job output gone is) has refl
     (ap (without_logs (is_among_files gone)) is.tied.log ∙ filter_join (λ file. not (is_among_files gone file)) files.older_logs (files.log ∷ []) ∙ ap (λ b. without_logs (is_among_files gone) files.older_logs ++ cond (not b) (files.log ∷ []) []) is.stays)
-    (apart_after files (flush_named sizes core job output gone files.named) (without_logs (is_among_files gone) files.older_logs) at (flush_edits job.family (flush_placement output.file (sizes output.file)) (greatest_of (flushed_memory job)) gone core.last)
-    (flush_is_group core state files parts at sizes number job output gone is) (is.unwritten, (tt, drops_add (IsUnwritten files) gone core.last))
+    (apart_after files (flush_named core job output gone files.named) (without_logs (is_among_files gone) files.older_logs) at (flush_edits job.family (flush_placement output.file output.length) (greatest_of (flushed_memory job)) gone core.last)
+    (flush_is_group core state files parts at number job output gone is) (is.unwritten, (tt, drops_add (IsUnwritten files) gone core.last))
     (each_filter (λ file. file ≢ files.log) (λ file. not (is_among_files gone file)) files.older_logs (older_apart files is.tied.apart)) is.tied.apart)
-    (flush_holds core other files.named job (flushed_memory job) (flush_placement output.file (sizes output.file)) output (is_among_files gone) (holds_frame core parts other files.named has.same is.tied.holds) is.stands.within
-    (record { family = flushes core.families (noted_runs core state number job is.stands is.noted_is) is.stands.views; spent = spends files.named.logs has.same.logs (spent_named parts (flush_families sizes job output files.named) gone files.older_logs files.named.logs files.log is.tied.log is.stays is.spent) }))
+    (flush_holds core other files.named job (flushed_memory job) (flush_placement output.file output.length) output (is_among_files gone) (holds_frame core parts other files.named has.same is.tied.holds) is.stands.within
+    (record { family = flushes core.families (noted_runs core state number job is.stands is.noted_is) is.stands.views; spent = spends files.named.logs has.same.logs (spent_named parts (flush_families job output files.named) gone files.older_logs files.named.logs files.log is.tied.log is.stays is.spent) }))
   where
     flushes : (cs : List (List ℕ × FamilyView)) → Each (λ here. here.1.id ≡ job.family → IsRunning (lowest_level core) here.1 job) cs → Each (λ here. IsView here.1) cs
-        → Each (λ one. one.1.id ≡ job.family → Flushes other one.1 (flushed_memory job) (flush_placement output.file (sizes output.file)) output) cs
+        → Each (λ one. one.1.id ≡ job.family → Flushes other one.1 (flushed_memory job) (flush_placement output.file output.length) output) cs
     flushes [] runs views = tt
-    flushes (c ∷ cs) runs views = ((λ id. view_flushes other sizes job output c.1 ((runs.0 id).0 (eqb-true job.level 0 is.kind)) views.0 is.outputs.some.0 found), flushes cs runs.1 views.1)
+    flushes (c ∷ cs) runs views = ((λ id. view_flushes other job output c.1 ((runs.0 id).0 (eqb-true job.level 0 is.kind)) views.0 is.outputs.some.0 found), flushes cs runs.1 views.1)
 
-    spends : (logs : List ℕ) → Each (λ file. other.log file ≡ parts.log file) logs → Each (λ file. is_among_files gone file ≡ true → CountsNone parts (flush_families sizes job output files.named) file) logs
-        → Each (λ file. is_among_files gone file ≡ true → CountsNone other (flush_families sizes job output files.named) file) logs
+    spends : (logs : List ℕ) → Each (λ file. other.log file ≡ parts.log file) logs → Each (λ file. is_among_files gone file ≡ true → CountsNone parts (flush_families job output files.named) file) logs
+        → Each (λ file. is_among_files gone file ≡ true → CountsNone other (flush_families job output files.named) file) logs
     spends [] same h = tt
-    spends (file ∷ logs) same h = ((λ among. subst (λ read. Each (λ (one : List ℕ × NamedFamily). filter (counts_for one.1) (records_in read) ≡ []) (flush_families sizes job output files.named)) (sym same.0) (h.0 among)), spends logs same.1 h.1)
+    spends (file ∷ logs) same h = ((λ among. subst (λ read. Each (λ (one : List ℕ × NamedFamily). filter (counts_for one.1) (records_in read) ≡ []) (flush_families job output files.named)) (sym same.0) (h.0 among)), spends logs same.1 h.1)

@@ -30,7 +30,7 @@ SameTable parts other placed = other.table placed.file ≡ parts.table placed.fi
 tables_frame : (parts other : ImageParts) (placed : List Placement) → Each (SameTable parts other) placed → map (table_at other) placed ≡ map (table_at parts) placed
 tables_frame parts other [] h = refl
 tables_frame parts other (one ∷ placed) h =
-    ap (λ file. record { file = one.file; entries = entries_acting one.number (file_entries file) } ∷ map (table_at other) placed) h.0 ∙ ap (λ l. table_at parts one ∷ l) (tables_frame parts other placed h.1)
+    ap (λ file. record { file = one.file; length = one.length; entries = entries_acting one.number (file_entries file) } ∷ map (table_at other) placed) h.0 ∙ ap (λ l. table_at parts one ∷ l) (tables_frame parts other placed h.1)
 
 level_frame : (parts other : ImageParts) (placed : List Placement) (n : ℕ) → Each (SameTable parts other) placed → map (table_at other) (placed_at n placed) ≡ map (table_at parts) (placed_at n placed)
 level_frame parts other placed n h = tables_frame parts other (placed_at n placed) (each_filter (SameTable parts other) (λ (one : Placement). one.level == n) placed h)

@@ -51,14 +51,14 @@ family_reopens : (parts : ImageParts) (ops : List LogOp) (n : ℕ) (core : Core)
 family_reopens parts ops n core first before after old new tied reopens is = go (has_memory before) refl reopens.1 is.tables
   where
     go : (b : Bool) → has_memory before ≡ b → MatchBool b (IsFlushedByCrash (first + rank core before.1.id) before.1 after.1) (after.1 ≡ before.1)
-        → MatchBool b (HasNewTable parts (first + rank core before.1.id) before old new) (HasLevelsOf parts old.1.tables new.1.tables)
+        → MatchBool b (HasNewTable parts (first + rank core before.1.id) before after old new) (HasLevelsOf parts old.1.tables new.1.tables)
         → IsTiedFamily parts [] core.last after new
     go true e opened has = record {
       name = is.name ∙ tied.name ∙ reopens.0;
       id = is.id ∙ tied.id ∙ ap {A = FamilyView} (λ view. view.id) (sym opened.view);
       levels = has.tables
-          ∙ level_front parts (flush_placement (first + rank core before.1.id) has.size) old.1.tables (record { file = first + rank core before.1.id; entries = opened.entries }) before.1 refl (has.entries opened.entries opened.joined) tied.levels
-          ∙ ap {A = FamilyView} (λ view. view.levels) (sym opened.view);
+          ∙ level_front parts (flush_placement (first + rank core before.1.id) has.flushed.length) old.1.tables (record { file = first + rank core before.1.id; length = has.flushed.length; entries = has.flushed.entries }) before.1 refl has.written tied.levels
+          ∙ ap {A = FamilyView} (λ view. view.levels) (sym has.flushed.view);
       memory = λ key. ap {A = FamilyView} (λ view. column key (memories view)) opened.view;
       order = subst MemoriesFall (sym opened.view) (tt, tt);
       flushed = lesser_within new.1.flushed old.1.flushed core.last is.flushed;

@@ -146,23 +146,23 @@ Ties core after = (files : EngineFiles) (begun : List GroupRecord) (parts : Imag
 abbrev pub family_id_at : List (List ℕ × FamilyView) → List ℕ → ℕ
 family_id_at cs name = unwrap_or (option_map (λ family. family.id) (value_at cs name)) 0
 
--- the edit of a planned file: its family's id, and where it is placed; `sizes` says how long each file is
-abbrev pub planned_placement : (ℕ → ℕ) → List (List ℕ × FamilyView) → Planned → ℕ × Placement
-planned_placement sizes cs planned = (
+-- the edit of a planned file: its family's id, and where it is placed
+abbrev pub planned_placement : List (List ℕ × FamilyView) → Planned → ℕ × Placement
+planned_placement cs planned = (
   family_id_at cs planned.wanted.part.family,
   record {
     level = planned.level;
     file = planned.wanted.table.file;
-    length = sizes planned.wanted.table.file;
+    length = planned.wanted.table.length;
     number = planned.number;
   },
 )
 
 -- those of all planned files, in the order of the request
-abbrev pub file_edits : (ℕ → ℕ) → List (List ℕ × FamilyView) → List Planned → List (ℕ × Placement)
-file_edits sizes cs [] = []
-file_edits sizes cs (planned ∷ more) =
-    planned_placement sizes cs planned ∷ file_edits sizes cs more
+abbrev pub file_edits : List (List ℕ × FamilyView) → List Planned → List (ℕ × Placement)
+file_edits cs [] = []
+file_edits cs (planned ∷ more) =
+    planned_placement cs planned ∷ file_edits cs more
 
 -- the file is one that nothing names
 pub record IsNewFile (named : Named) (table : FileEntries) : Type 0 where
@@ -178,21 +178,21 @@ committed_named core request edits named = record {
 }
 
 -- the group of a commit, and what is named after it
-abbrev pub commit_files : (ℕ → ℕ) → Core → List Part → List (ℕ × Placement)
-commit_files sizes core request = file_edits sizes core.families (plan core request)
+abbrev pub commit_files : Core → List Part → List (ℕ × Placement)
+commit_files core request = file_edits core.families (plan core request)
 
 -- the records of the group of a commit
-abbrev pub commit_group : (ℕ → ℕ) → (ℕ → ℕ) → Core → List Part → List GroupRecord
-commit_group at sizes core request =
-    group_of_edits at (commit_edits (commit_files sizes core request) (committed core request).last)
+abbrev pub commit_group : (ℕ → ℕ) → Core → List Part → List GroupRecord
+commit_group at core request =
+    group_of_edits at (commit_edits (commit_files core request) (committed core request).last)
 
 -- what is named after it
-abbrev pub commit_named : (ℕ → ℕ) → Core → List Part → Named → Named
-commit_named sizes core request named = committed_named core request (commit_files sizes core request) named
+abbrev pub commit_named : Core → List Part → Named → Named
+commit_named core request named = committed_named core request (commit_files core request) named
 
 -- The turn's request, before its commit: nothing names its files yet.
 pub record IsCommittingRequest (core : Core) (state : ModelState) (files : EngineFiles) (parts : ImageParts)
-    (sizes : ℕ → ℕ) (turn : Turn) : Type 0 where
+    (turn : Turn) : Type 0 where
   pub stands : Represents core state
   pub tied : IsTiedToImage core files [] parts
   pub turn_is : core.turn ≡ Some turn
@@ -200,22 +200,22 @@ pub record IsCommittingRequest (core : Core) (state : ModelState) (files : Engin
   pub unwritten : Each (λ table. IsUnwritten files table.file) (files_in_parts turn.parts)
 
 -- where the outputs are placed, and the group
-abbrev pub output_placement : (ℕ → ℕ) → ℕ → FileEntries → Placement
-output_placement sizes level table = record { level = level; file = table.file; length = sizes table.file; number = 0 }
+abbrev pub output_placement : ℕ → FileEntries → Placement
+output_placement level table = record { level = level; file = table.file; length = table.length; number = 0 }
 
 -- where all outputs are placed
-abbrev pub output_placements : (ℕ → ℕ) → ℕ → List FileEntries → List Placement
-output_placements sizes level tables = map {B = Placement} (output_placement sizes level) tables
+abbrev pub output_placements : ℕ → List FileEntries → List Placement
+output_placements level tables = map {B = Placement} (output_placement level) tables
 
 -- the records of the group of an installed compaction
-abbrev pub compact_group : (ℕ → ℕ) → (ℕ → ℕ) → Core → Job → List FileEntries → List GroupRecord
-compact_group at sizes core job tables =
-    group_of_edits at (compact_edits job.family job.files (output_placements sizes job.level tables) core.last)
+abbrev pub compact_group : (ℕ → ℕ) → Core → Job → List FileEntries → List GroupRecord
+compact_group at core job tables =
+    group_of_edits at (compact_edits job.family job.files (output_placements job.level tables) core.last)
 
 -- what is named after it
-abbrev pub compact_named : (ℕ → ℕ) → Core → Job → List FileEntries → Named → Named
-compact_named sizes core job tables named = record {
-  families = changed_named job.family (compacted_named job (output_placements sizes job.level tables)) named.families;
+abbrev pub compact_named : Core → Job → List FileEntries → Named → Named
+compact_named core job tables named = record {
+  families = changed_named job.family (compacted_named job (output_placements job.level tables)) named.families;
   logs = named.logs;
   last = max named.last core.last;
 }
@@ -242,35 +242,35 @@ abbrev pub flushed_memory : Job → List Entry
 flushed_memory job = first_run job.inputs
 
 -- the records of the group of an installed flush
-abbrev pub flush_group : (ℕ → ℕ) → (ℕ → ℕ) → Core → Job → FileEntries → List ℕ → List GroupRecord
-flush_group at sizes core job output gone =
-    group_of_edits at (flush_edits job.family (flush_placement output.file (sizes output.file))
+abbrev pub flush_group : (ℕ → ℕ) → Core → Job → FileEntries → List ℕ → List GroupRecord
+flush_group at core job output gone =
+    group_of_edits at (flush_edits job.family (flush_placement output.file output.length)
     (greatest_of (flushed_memory job)) gone core.last)
 
 -- what is named after it
-abbrev pub flush_named : (ℕ → ℕ) → Core → Job → FileEntries → List ℕ → Named → Named
-flush_named sizes core job output gone named =
-    flushed_named job.family (flush_placement output.file (sizes output.file)) (greatest_of (flushed_memory job))
+abbrev pub flush_named : Core → Job → FileEntries → List ℕ → Named → Named
+flush_named core job output gone named =
+    flushed_named job.family (flush_placement output.file output.length) (greatest_of (flushed_memory job))
     (is_among_files gone) core.last named
 
 -- the logs that go leave the list of logs
-abbrev pub flush_files : (ℕ → ℕ) → Core → Job → FileEntries → List ℕ → EngineFiles → EngineFiles
-flush_files sizes core job output gone files = record files {
-  named = flush_named sizes core job output gone files.named;
+abbrev pub flush_files : Core → Job → FileEntries → List ℕ → EngineFiles → EngineFiles
+flush_files core job output gone files = record files {
+  named = flush_named core job output gone files.named;
   log = files.log;
   older_logs = without_logs (is_among_files gone) files.older_logs;
 }
 
 -- what the families name behind the group of an installed flush
-abbrev pub flush_families : (ℕ → ℕ) → Job → FileEntries → Named → List (List ℕ × NamedFamily)
-flush_families sizes job output named =
-    changed_named job.family (with_flush (flush_placement output.file (sizes output.file))
+abbrev pub flush_families : Job → FileEntries → Named → List (List ℕ × NamedFamily)
+flush_families job output named =
+    changed_named job.family (with_flush (flush_placement output.file output.length)
     (greatest_of (flushed_memory job))) named.families
 
 -- A noted flush of a family that is there, with its output, before it is installed: nothing names the output's file,
 -- and of the older logs those go of which no operation counts behind the group, and no other.
 pub record IsInstallingFlush (core : Core) (state : ModelState) (files : EngineFiles) (parts : ImageParts)
-    (sizes : ℕ → ℕ) (number : ℕ) (job : Job) (output : FileEntries) (gone : List ℕ) : Type 0 where
+    (number : ℕ) (job : Job) (output : FileEntries) (gone : List ℕ) : Type 0 where
   pub stands : Represents core state
   pub tied : IsTiedToImage core files [] parts
   pub noted_is : noted_job core number ≡ Some job
@@ -284,7 +284,7 @@ pub record IsInstallingFlush (core : Core) (state : ModelState) (files : EngineF
   -- the present log stays
   pub stays : is_among_files gone files.log ≡ false
   pub spent : Each (λ file. is_among_files gone file
-      ≡ is_spent parts (flush_families sizes job output files.named) file) files.older_logs
+      ≡ is_spent parts (flush_families job output files.named) file) files.older_logs
 
 -- the last log has these operations more
 pub record HasLogMore (parts other : ImageParts) (older : List ℕ) (log : ℕ) (new : List LogOp) : Type 0 where

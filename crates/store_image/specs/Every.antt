@@ -5,7 +5,7 @@ use Rattle.st_base.specs.Bytes.{default_family}
 use Rattle.st_base.specs.declared.entry.Entry.{Entry}
 use Rattle.st_model.specs.declared.state.ModelState.{ModelState}
 use Rattle.st_model.specs.Contents.{contents, opened}
-use Rattle.core_model.specs.Crash.{known_keys, rank}
+use Rattle.core_model.specs.Crash.{IsFlushedByCrash, known_keys, rank}
 use Rattle.core_model.specs.Event.{CoreReply, Crashed, Done}
 use Rattle.core_model.specs.Relation.{Represents}
 use Rattle.core_model.specs.Compaction.{IsJoined}
@@ -246,8 +246,9 @@ JoinedIsOne = (runs : List (List Entry)) (one other : List Entry) → IsJoined r
 -- so an opening's new table is one that has the entries of one joined list
 abbrev pub TableIsNew : Type 0
 TableIsNew =
-    (parts : ImageParts) (file size : ℕ) (before : List ℕ × FamilyView) (old new : List ℕ × NamedFamily)
-    (entries : List Entry) → IsJoined (memories before.1) entries
-    → HasLevelsOf parts (flush_placement file size ∷ old.1.tables) new.1.tables
-    → table_at parts (flush_placement file size) ≡ record { file = file; entries = entries }
-    → HasNewTable parts file before old new
+    (parts : ImageParts) (file : ℕ) (before after : List ℕ × FamilyView) (old new : List ℕ × NamedFamily)
+    (entries : List Entry) → IsJoined (memories before.1) entries → (flushed : IsFlushedByCrash file before.1 after.1)
+    → HasLevelsOf parts (flush_placement file flushed.length ∷ old.1.tables) new.1.tables
+    → table_at parts (flush_placement file flushed.length)
+    ≡ record { file = file; length = flushed.length; entries = entries }
+    → HasNewTable parts file before after old new

@@ -1,6 +1,6 @@
 -- An image of the disk, decoded: what each of its files is as a root, a manifest, a log or a table. The layers that
 -- know bytes give these by one function each.
-use Rattle.std.specs.Prelude.{ℕ, suc, zero, Bool, false, ◌&&◌, ◌||◌, ◌==◌, ◌+◌, nat_lt, List, [], ◌∷◌, map, filter, flat_map, reverse, if◌then◌else◌, Option, Some, None, is_some}
+use Rattle.std.specs.Prelude.{ℕ, ◌≡◌, suc, zero, Bool, false, ◌&&◌, ◌||◌, ◌==◌, ◌+◌, nat_lt, List, [], ◌∷◌, map, filter, flat_map, reverse, if◌then◌else◌, Option, Some, None, is_some}
 use Rattle.st_base.specs.Count.{greatest_count}
 use Rattle.st_base.specs.declared.entry.Entry.{Entry}
 use Rattle.st_base.specs.Range.{under_number, has_key}
@@ -66,8 +66,14 @@ file_entries (Some file) = elim file.entries [ None ↦ [] | Some entries ↦ en
 abbrev pub table_at : ImageParts → Placement → FileEntries
 table_at parts placed = record {
   file = placed.file;
+  length = placed.length;
   entries = entries_acting placed.number (file_entries (parts.table placed.file));
 }
+
+-- the image has the table's file, an own table of this length with these entries
+abbrev pub HasTableFile : ImageParts → FileEntries → Type 0
+HasTableFile parts table =
+    parts.table table.file ≡ Some (record { length = table.length; entries = Some table.entries })
 
 -- those placed at a level, the newest first
 abbrev pub placed_at : ℕ → List Placement → List Placement
