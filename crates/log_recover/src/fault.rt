@@ -2,15 +2,18 @@ ghost use Rattle.std.specs.Prelude.{◌≡◌};
 
 use st_device::{Failed, ReadFault};
 use st_gate::ReplayFault;
+use thiserror::Error;
 
 /// Why a store isn't opened.
-#[derive(Drop)]
+#[derive(Debug, Drop, Error)]
 pub enum OpenFault {
     /// The disk has a store that is damaged: a file, and the offset of its first damage in bytes. In the log it is the
     /// offset of a record's gate, or 0 where the file isn't there or isn't a log.
+    #[error("the store is damaged: file {file}, from its byte {at} on")]
     Damaged { file: u64, at: u64 },
-    /// The disk has failed.
+    #[error("the disk has failed")]
     DiskFault,
+    #[error("memory has run out")]
     OutOfMemory,
 }
 
