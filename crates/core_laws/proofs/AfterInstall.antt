@@ -6,16 +6,16 @@ use Rattle.std.specs.List.{filter, flat_map, list_any, AllByRecursion as Each}
 use Rattle.std.proofs.lemmas.Bool.{cases_Bool, eqb-true, eq-eqb, ne_eqb, cond-true, cond-false}
 use Rattle.base_laws.proofs.Lists.{any_none, each_as, each_filter, each_join, each_map, flat_map_each, none_any}
 use Rattle.base_laws.proofs.Ranges.{meet_swaps}
-use Rattle.core_model.specs.Column.{Pairwise}
 use Rattle.core_laws.specs.SoundCore.{IsSoundCore, IdsDiffer}
 use Rattle.core_model.specs.Pick.{joint_range}
 use Rattle.core_model.specs.Picture.{FileEntries, FamilyView, Job, Turn, Core, lowest_level, tables_in, is_input, is_flush, jobs_of, all_tables}
-use Rattle.core_model.specs.RelationParts.{ForEach, IsRunning, AreApart, JobsRun, KeepsReads, HasOutputs, AreNoted, IsTurn, files_in_parts, input_tables}
+use Rattle.core_model.specs.RelationParts.{ForEach, IsRunning, JobsApart, JobsRun, KeepsReads, HasOutputs, AreNoted, IsTurn, files_in_parts, input_tables}
 use Rattle.core_model.specs.Request.{IsRequest, NamesThere}
 use Rattle.core_model.specs.Step.{installed, without_job, turn_files, AreFresh}
 use Rattle.core_laws.proofs.Lists.{pairs_filter, pairs_join}
 use Rattle.core_laws.proofs.Members.{In, each_in, filter_swap, each_by_in, Differ, hits, hits_join, once_hits, hits_once}
 use Rattle.core_laws.proofs.Keys.{and_swaps}
+use Rattle.st_order.specs.Columns.{Pairwise}
 
 pub lowest_le : (core : Core) → lowest_level core ≤ 6
 lowest_le core = go core.behind
@@ -28,7 +28,7 @@ pub some_both : {T : Type 0} (o : Option T) (P Q : T → Type 0) → IsSomeAnd o
 some_both None P Q one other = absurd one
 some_both (Some x) P Q one other = (x, refl, one, other)
 
-pub apart_back : (lowest_level : ℕ) (one other : Job) → AreApart lowest_level one other → AreApart lowest_level other one
+pub apart_back : (lowest_level : ℕ) (one other : Job) → JobsApart lowest_level one other → JobsApart lowest_level other one
 apart_back lowest_level one other apart = record {
   files = each_by_in (λ file. list_any (λ taken. taken == file) one.files ≡ false) other.files
       (λ file there. any_none (λ taken. taken == file) one.files
@@ -48,7 +48,7 @@ pub fewer_run : (lowest_level : ℕ) (jobs : List Job) (family : FamilyView) (te
 fewer_run lowest_level jobs family test run = record {
   each = each_filter (IsRunning lowest_level family) test jobs run.each;
   ranges = each_filter (λ (job : Job). job.range ≡ joint_range job.inputs) test jobs run.ranges;
-  apart = pairs_filter (AreApart lowest_level) test jobs run.apart;
+  apart = pairs_filter (JobsApart lowest_level) test jobs run.apart;
 }
 
 module _ (core : Core) (job : Job) (change : FamilyView → FamilyView) where
@@ -81,6 +81,7 @@ module _ (core : Core) (job : Job) (change : FamilyView → FamilyView) where
     made = λ more. each_filter (λ one. one.number ≤ core.jobs_made) (is_other job.number) core.jobs (are.made more);
     families = each_filter (λ one. one.family < core.next_family) (is_other job.number) core.jobs are.families;
     outputs = each_filter HasOutputs (is_other job.number) core.jobs are.outputs;
+    live = are.live;
   }
 
   -- a family that isn't changed

@@ -1,6 +1,6 @@
 -- Each event keeps numbers, ids, snapshots and memtables within their limits, and the capacity.
 use Rattle.std.proofs.Common.{◌≡◌, ℕ, suc, ◌+◌, ◌*◌, ◌<◌, ◌≤◌, Bool, true, false, cond, not, ◌||◌, List, [], ◌∷◌, ◌++◌, length, map, filter, Option, Some, None, unwrap_or, refl, sym, ap, subst, ◌∙◌, inl, inr, arith}
-use Rattle.std.specs.Prelude.{◌==◌, fold, sum_by, max, nat_le, nat_lt, MatchBool, IsSomeAnd}
+use Rattle.std.specs.Prelude.{◌==◌, ◌^◌, ◌-◌, fold, sum_by, max, min, nat_le, nat_lt, MatchBool, IsSomeAnd}
 use Rattle.std.specs.Option.{option_map}
 use Rattle.std.specs.List.{list_any, AllZip, AllByRecursion as Each}
 use Rattle.std.proofs.lemmas.Bool.{leb-false, ltb-false, or_parts}
@@ -25,7 +25,8 @@ use Rattle.core_model.specs.Bounded.{CrashEndsBounded, HasSmallMemories, IsBound
 use Rattle.core_model.specs.Commit.{Planned, outline, plan, plan_from, put_file, put_planned, request_files, is_numbered, committed, commit_refusals}
 use Rattle.core_model.specs.Compaction.{with_compacted, with_flushed}
 use Rattle.core_model.specs.Crash.{IsFlushedByCrash, Reopens, rank}
-use Rattle.core_model.specs.Event.{CoreReply, CompactInstalled, CompactPicked, Crashed, DropFamily, Event, FlushInstalled, FlushPicked, IngestCommitted, JobGivenUp, MakeFamily, Release, Seal, Snap, TurnReturned, TurnTaken, Write}
+use Rattle.core_model.specs.Event.{CompactInstalled, CompactPicked, Crashed, DropFamily, Event, FlushInstalled, FlushPicked, IngestCommitted, JobGivenUp, MakeFamily, Release, Seal, Snap, TurnReturned, TurnTaken, Write}
+use Rattle.core_model.specs.declared.reply.CoreReply.{CoreReply}
 use Rattle.core_model.specs.Picture.{Core, FamilyView, FileEntries, Job, Part, Turn, charge_of, memories, new_view}
 use Rattle.core_model.specs.Relation.{Represents}
 use Rattle.core_model.specs.Step.{Installs, IsWriteWithinLimits, Notes, RefusedOr, changed_id, has_memory, is_due, is_due_at, is_work_first, compact_job, flush_job, noted_job, put_in_memory, with_memory_entry, with_operations, without_turn}
@@ -35,6 +36,7 @@ use Rattle.core_laws.proofs.FamilyEvents.{core_names}
 use Rattle.core_laws.proofs.FlushedOwn.{each_without_last}
 use Rattle.core_laws.proofs.JobEvents.{stands_own}
 use Rattle.core_laws.proofs.NamedLists.{own_found}
+use Rattle.st_base.specs.Range.{entries_charge}
 
 abbrev Small : List ℕ × FamilyView → Type 0
 Small named = HasSmallMemories named.1
@@ -115,8 +117,11 @@ room_of core state ops stands bounded limits first = rooms core.families (own_fo
     due : Each (λ op. is_due_at core (op_family op) ≡ false) ops
     due = none_any (λ op. is_due_at core (op_family op)) ops first
 
+    lesser : (n : ℕ) → min (0 + n) (2 ^ 64 - 1) < 4194304 → n < 4194304
+    lesser n lt = omega (arith, lt)
+
     below_limit : (family : FamilyView) → is_due family ≡ false → charge_of family.mem < 4194304
-    below_limit family e = leb-false 4194304 (charge_of family.mem) (or_parts (nat_le 4194304 (charge_of family.mem)) (nat_le 4 (length family.sealed)) (or_parts (nat_le 4194304 (charge_of family.mem) || nat_le 4 (length family.sealed)) (nat_le 20 (length (unwrap_or (Rattle.std.specs.Prelude.slice_get family.levels 0) []))) e).0).0
+    below_limit family e = lesser (charge_of family.mem) (leb-false 4194304 (entries_charge family.mem) (or_parts (nat_le 4194304 (entries_charge family.mem)) (nat_le 4 (length family.sealed)) (or_parts (nat_le 4194304 (entries_charge family.mem) || nat_le 4 (length family.sealed)) (nat_le 20 (length (unwrap_or (Rattle.std.specs.Prelude.slice_get family.levels 0) []))) e).0).0)
 
     room : (named : List ℕ × FamilyView) → value_at core.families named.0 ≡ Some named.1 → is_named_by ops named.0 ≡ true → charge_of named.1.mem + write_charge ops < sealed_charge
     room named found any =
@@ -276,11 +281,11 @@ committed_bounded core parts bounded none =
     }
 
 commit_bounded : (core : Core) (found : Option Turn) (answer : CoreReply) (after : Core)
-    → IsSomeAnd found (λ turn. RefusedOr (commit_refusals core turn.parts) (without_turn core) (committed core turn.parts) (Rattle.core_model.specs.Event.Received (core.place + 1) (Rattle.core_model.specs.Commit.placed_files (plan core turn.parts))) answer after)
+    → IsSomeAnd found (λ turn. RefusedOr (commit_refusals core turn.parts) (without_turn core) (committed core turn.parts) (Rattle.core_model.specs.declared.reply.CoreReply.TheVariants.Received (core.place + 1) (Rattle.core_model.specs.Commit.placed_files (plan core turn.parts))) answer after)
     → IsBounded core → IsBounded after
 commit_bounded core None answer after k bounded = absurd k
 commit_bounded core (Some turn) answer after k bounded =
-    refused_or (commit_refusals core turn.parts) (without_turn core) (committed core turn.parts) (Rattle.core_model.specs.Event.Received (core.place + 1) (Rattle.core_model.specs.Commit.placed_files (plan core turn.parts))) answer after k
+    refused_or (commit_refusals core turn.parts) (without_turn core) (committed core turn.parts) (Rattle.core_model.specs.declared.reply.CoreReply.TheVariants.Received (core.place + 1) (Rattle.core_model.specs.Commit.placed_files (plan core turn.parts))) answer after k
     (record { place = bounded.place; last = bounded.last; next_family = bounded.next_family; live = bounded.live; small = bounded.small })
     (λ none. committed_bounded core turn.parts bounded none)
 
@@ -377,11 +382,11 @@ planned_capacity core [] = refl
 planned_capacity core (one ∷ more) = planned_capacity (put_planned core one) more
 
 commit_capacity : (core : Core) (found : Option Turn) (answer : CoreReply) (after : Core)
-    → IsSomeAnd found (λ turn. RefusedOr (commit_refusals core turn.parts) (without_turn core) (committed core turn.parts) (Rattle.core_model.specs.Event.Received (core.place + 1) (Rattle.core_model.specs.Commit.placed_files (plan core turn.parts))) answer after)
+    → IsSomeAnd found (λ turn. RefusedOr (commit_refusals core turn.parts) (without_turn core) (committed core turn.parts) (Rattle.core_model.specs.declared.reply.CoreReply.TheVariants.Received (core.place + 1) (Rattle.core_model.specs.Commit.placed_files (plan core turn.parts))) answer after)
     → after.capacity ≡ core.capacity
 commit_capacity core None answer after k = absurd k
 commit_capacity core (Some turn) answer after k =
-    refused_capacity (commit_refusals core turn.parts) core.capacity (without_turn core) (committed core turn.parts) (Rattle.core_model.specs.Event.Received (core.place + 1) (Rattle.core_model.specs.Commit.placed_files (plan core turn.parts))) answer after k
+    refused_capacity (commit_refusals core turn.parts) core.capacity (without_turn core) (committed core turn.parts) (Rattle.core_model.specs.declared.reply.CoreReply.TheVariants.Received (core.place + 1) (Rattle.core_model.specs.Commit.placed_files (plan core turn.parts))) answer after k
     refl (planned_capacity core (plan core turn.parts))
 
 pub step_keeps_capacity : StepKeepsCapacity

@@ -2,7 +2,7 @@
 use Rattle.std.proofs.Common.{◌≡◌, ℕ, zero, suc, ◌<◌, List, [], ◌∷◌, ◌++◌, length, get_or, refl, sym, ap, subst, ◌∙◌, arith}
 use Rattle.std.specs.Prelude.{AllPairs, flat_map, Contains}
 use Rattle.std.specs.List.{AllByRecursion as Each}
-use Rattle.core_model.specs.Column.{Pairwise}
+use Rattle.st_order.specs.Columns.{Pairwise}
 
 module _ {X : Type 0} where
   pub each_both : (P Q : X → Type 0) (xs : List X) → Each P xs → Each Q xs → Each (λ x. P x × Q x) xs

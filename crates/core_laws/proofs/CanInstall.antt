@@ -6,8 +6,6 @@ use Rattle.st_base.specs.declared.entry.Entry.{Entry}
 use Rattle.st_base.proofs.Same.{same_self}
 use Rattle.st_base.specs.Range.{meet, range_of}
 use Rattle.base_laws.proofs.Lists.{each_as, each_back, each_front, map_each}
-use Rattle.core_model.specs.Column.{Pairwise, of_key, column, kept}
-use Rattle.core_model.specs.Compaction.{IsCompaction, cut_tables}
 use Rattle.core_model.specs.Picture.{FileEntries, Job, Core, is_flush, all_tables, runs_of}
 use Rattle.core_model.specs.RelationParts.{HasOutputs}
 use Rattle.core_model.specs.Step.{AreOutputs, AreFresh, joined_entries, turn_files}
@@ -16,6 +14,9 @@ use Rattle.core_laws.proofs.OutputsExist.{compaction_exists, fall_weakly}
 use Rattle.core_laws.proofs.Members.{map_pairs}
 use Rattle.core_laws.specs.Laws.{CompactionCanBeInstalled, FlushCanBeInstalled, FlushOutputCanBeInstalled, OutputsCanBeInstalled}
 use Rattle.core_laws.proofs.Cuts.{cut_joined, cut_some, cut_apart}
+use Rattle.st_order.specs.Columns.{Pairwise, of_key, column}
+use Rattle.job_model.specs.Column.{kept}
+use Rattle.job_model.specs.Compaction.{IsCompaction, cut_tables}
 
 -- lists of entries as tables of no length, with file numbers from this one on
 abbrev pub tables_from : ℕ → List (List Entry) → List FileEntries

@@ -1,10 +1,10 @@
 -- What a cause tells: a key of the levels in the range, or the output of a running job that meets it.
 use Rattle.std.proofs.Common.{◌≡◌, ℕ, ◌+◌, ◌≤◌, Bool, true, false, cond, ◌&&◌, ◌||◌, List, [], ◌∷◌, ◌++◌, flat_map, filter, length, Option, Some, None, refl, sym, ap, subst, ◌∙◌, inl, inr, ◌⊎◌, arith}
-use Rattle.std.specs.Prelude.{fold, find, Contains, ◌==◌}
+use Rattle.std.specs.Prelude.{fold, find, map, nat_le, Contains, ◌==◌}
 use Rattle.std.specs.Option.{option_map, option_or}
 use Rattle.std.specs.List.{list_any, AllByRecursion as Each}
 use Rattle.std.proofs.lemmas.Bool.{false≢true, and_parts, and_from, or_left, or_right}
-use Rattle.st_base.specs.Bytes.{at_most, below}
+use Rattle.st_base.specs.Bytes.{at_most, below, same}
 use Rattle.st_base.specs.declared.entry.Entry.{Entry}
 use Rattle.st_base.specs.declared.entry.KeyRange.{KeyRange}
 use Rattle.st_model.specs.declared.refusal.Why.{Why}
@@ -14,14 +14,17 @@ use Rattle.st_model.specs.Placing.{is_among_known}
 use Rattle.st_base.specs.Range.{is_in_range, meet, keys_of, key_at_front, key_at_end}
 use Rattle.st_model.specs.State.{is_known}
 use Rattle.st_base.proofs.Same.{same_true}
-use Rattle.st_base.specs.Bytes.{same}
 use Rattle.base_laws.proofs.Lists.{each_join}
-use Rattle.core_model.specs.Level.{lesser_key, least_within, running_at, stop_at, first_stop, level_rule}
-use Rattle.core_model.specs.Pick.{joint_range}
+use Rattle.job_model.specs.Level as levels_of_runs
+use Rattle.job_model.specs.Level.{LevelChoice, output_meets, stopped, walk_from}
+use Rattle.st_base.specs.declared.running.Running as shown
+use Rattle.core_model.specs.Level.{level_rule, stop_at}
+use Rattle.core_model.specs.Pick.{busy, joint_range}
 use Rattle.core_model.specs.Picture.{FileEntries, Job, runs_of, tables_in}
 use Rattle.core_laws.proofs.FileChanges.{contains_later, filter_with}
 use Rattle.core_laws.proofs.JointRange.{end_holds, front_holds}
 use Rattle.core_laws.proofs.FileLift.{some_is}
+use Rattle.st_order.specs.Least.{lesser_key, least_within}
 
 -- ---- the least key
 
@@ -61,39 +64,57 @@ find_some p (y ∷ ys) x e = step (p y) refl e (find_some p ys x)
     step true is e rest = let at = some_is y x e in ((0, omega arith, at), ap p (sym at) ∙ is)
     step false is e rest = let found = rest e in (contains_later y ys x found.0, found.1)
 
+-- so does what is found among what a list shows
+find_shown : {X Y : Type 0} (f : X → Y) (p : Y → Bool) (xs : List X) (y : Y) → find p (map f xs) ≡ Some y → (x : X) × Contains xs x × (f x ≡ y) × (p y ≡ true)
+find_shown f p [] y e = absurd cc
+find_shown f p (x ∷ xs) y e = step (p (f x)) refl e (find_shown f p xs y)
+  where
+    step : (b : Bool) → p (f x) ≡ b → cond b (Some (f x)) (find p (map f xs)) ≡ Some y → (find p (map f xs) ≡ Some y → (x : _) × Contains xs x × (f x ≡ y) × (p y ≡ true)) → (one : _) × Contains (x ∷ xs) one × (f one ≡ y) × (p y ≡ true)
+    step true is e rest = let at = some_is (f x) y e in (x, (0, omega arith, refl), at, ap p (sym at) ∙ is)
+    step false is e rest = let found = rest e in (found.0, contains_later x xs found.0 found.1, found.2, found.3)
+
 -- ---- the cause
 
 abbrev pub Reason : (List ℕ → Type 0) → List Job → KeyRange → Why → Type 0
 Reason P running range why = ((key : List ℕ) × (is_in_range range key ≡ true) × P key × (why ≡ Key key)) ⊎ ((job : Job) × Contains running job × (meet job.range range ≡ true) × (why ≡ Running job.range))
 
 stop_reason : (P : List ℕ → Type 0) (running : List Job) (n : ℕ) (range : KeyRange) (tables : List FileEntries) (why : Why) → Each (Each (λ entry. P entry.key)) (runs_of tables) → stop_at running n range tables ≡ Some why → Reason P running range why
-stop_reason P running n range tables why each e = step (least_within range (runs_of tables)) refl (running_at running n range) refl e
+stop_reason P running n range tables why each e = step (least_within range (runs_of tables)) refl (find (output_meets n range) (map busy running)) refl e
   where
-    step : (found : Option (List ℕ)) → least_within range (runs_of tables) ≡ found → (job : Option Job) → running_at running n range ≡ job → option_or (option_map Key found) (option_map (λ job. Running job.range) job) ≡ Some why → Reason P running range why
-    step (Some key) is job is_job e = let least = least_is P range (runs_of tables) key each is in inl (key, least.0, least.1, sym (some_is (Key key) why e))
-    step None is (Some job) is_job e = let found = find_some (λ job. job.level == n && meet job.range range) running job is_job in inr (job, found.0, (and_parts (job.level == n) (meet job.range range) found.1).1, sym (some_is (Running job.range) why e))
-    step None is None is_job e = absurd cc
+    step : (found : Option (List ℕ)) → least_within range (runs_of tables) ≡ found → (output : Option shown.Running) → find (output_meets n range) (map busy running) ≡ output
+        → option_or (option_map Key found) (option_map (λ output. Running output.range) output) ≡ Some why → Reason P running range why
+    step (Some key) is output is_output e = let least = least_is P range (runs_of tables) key each is in inl (key, least.0, least.1, sym (some_is (Key key) why e))
+    step None is (Some output) is_output e =
+        let found = find_shown busy (output_meets n range) running output is_output in
+        let same : output.range ≡ found.0.range = ap (λ (one : shown.Running). one.range) (sym found.2) in
+        inr (found.0, found.1, subst (λ one. meet one range ≡ true) same (and_parts (output.level == n) (meet output.range range) found.3).1, sym (some_is (Running output.range) why e) ∙ ap Running same)
+    step None is None is_output e = absurd cc
 
 map_append_entries : (P : List Entry → Type 0) (tables more : List FileEntries) → Each P (runs_of (tables ++ more)) → Each P (runs_of tables) × Each P (runs_of more)
 map_append_entries P [] more each = (tt, each)
 map_append_entries P (table ∷ tables) more each = let rest = map_append_entries P tables more each.1 in ((each.0, rest.0), rest.1)
 
-stops_reason : (P : List ℕ → Type 0) (running : List Job) (n : ℕ) (range : KeyRange) (levels : List (List FileEntries)) (why : Why) → Each (Each (λ entry. P entry.key)) (runs_of (tables_in levels))
-    → option_map (λ stop. stop.1) (first_stop running n range levels) ≡ Some why → Reason P running range why
-stops_reason P running n range [] why each e = absurd cc
-stops_reason P running n range (tables ∷ levels) why each e =
+stops_reason : (P : List ℕ → Type 0) (running : List Job) (range : KeyRange) (lowest found n : ℕ) (levels : List (List FileEntries)) (why : Why) → Each (Each (λ entry. P entry.key)) (runs_of (tables_in levels))
+    → (walk_from (map busy running) range lowest found n (map runs_of levels)).cause ≡ Some why → Reason P running range why
+stops_reason P running range lowest found n [] why each e = absurd cc
+stops_reason P running range lowest found n (tables ∷ levels) why each e =
     let parts = map_append_entries (Each (λ entry. P entry.key)) tables (tables_in levels) each in
-    step (stop_at running n range tables) refl parts.0 e (stops_reason P running (n + 1) range levels why parts.1)
+    step (stop_at running n range tables) refl parts.0 e (stops_reason P running range lowest next (n + 1) levels why parts.1)
   where
-    step : (stop : Option Why) → stop_at running n range tables ≡ stop → Each (Each (λ entry. P entry.key)) (runs_of tables)
-        → option_map (λ (one : ℕ × Why). one.1) (option_or (option_map (λ why. (n, why)) stop) (first_stop running (n + 1) range levels)) ≡ Some why
-        → (option_map (λ (one : ℕ × Why). one.1) (first_stop running (n + 1) range levels) ≡ Some why → Reason P running range why) → Reason P running range why
-    step None is here e rest = rest e
-    step (Some other) is here e rest = stop_reason P running n range tables why here (is ∙ e)
+    next : ℕ
+    next = cond (nat_le n lowest && levels_of_runs.is_free_level range (runs_of tables)) n found
+
+    rest : LevelChoice
+    rest = walk_from (map busy running) range lowest next (n + 1) (map runs_of levels)
+
+    step : (stop : Option Why) → stop_at running n range tables ≡ stop → Each (Each (λ entry. P entry.key)) (runs_of tables) → (stopped stop found rest).cause ≡ Some why
+        → (rest.cause ≡ Some why → Reason P running range why) → Reason P running range why
+    step None is here e deeper = deeper e
+    step (Some other) is here e deeper = stop_reason P running n range tables why here (is ∙ e)
 
 pub cause_reason : (P : List ℕ → Type 0) (levels : List (List FileEntries)) (running : List Job) (range : KeyRange) (lowest : ℕ) (why : Why) → Each (Each (λ entry. P entry.key)) (runs_of (tables_in levels))
     → (level_rule levels running range lowest).cause ≡ Some why → Reason P running range why
-cause_reason P levels running range lowest why each e = stops_reason P running 0 range levels why each e
+cause_reason P levels running range lowest why each e = stops_reason P running range lowest 0 0 levels why each e
 
 -- ---- the ends of a joint range are keys of the inputs
 

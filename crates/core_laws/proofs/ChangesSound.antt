@@ -19,10 +19,10 @@ use Rattle.st_model.specs.State.{new_family}
 use Rattle.base_laws.proofs.Keys.{below_trans}
 use Rattle.base_laws.proofs.Lists.{each_as, each_filter, each_join, each_map}
 use Rattle.core_laws.specs.Claims.{ApplySound}
-use Rattle.core_model.specs.Column.{Pairwise}
 use Rattle.core_laws.proofs.ByPlace.{from_pairs}
 use Rattle.core_laws.proofs.Lists.{pairs_as, pairs_filter, pairs_join}
 use Rattle.core_laws.proofs.Members.{pairs_map, pairs_of_all}
+use Rattle.st_order.specs.Columns.{Pairwise}
 
 -- ---- order of names
 

@@ -7,9 +7,7 @@ use Rattle.st_base.specs.declared.entry.KeyRange.{KeyRange}
 use Rattle.st_model.specs.Read.{value_of}
 use Rattle.base_laws.proofs.Lists.{each_as, each_back, each_front, each_join, each_map, map_each}
 use Rattle.core_laws.specs.Claims.{Compacts, AreOutputsOf, IsReadAt, upper_runs, lower_runs}
-use Rattle.core_model.specs.Column.{column, found_at, compacted}
-use Rattle.core_model.specs.Compaction.{IsCompaction, with_compacted, with_flushed, without_last}
-use Rattle.core_model.specs.Drops.{covers}
+use Rattle.core_model.specs.Compaction.{with_compacted, with_flushed, without_last}
 use Rattle.core_model.specs.Picture.{FileEntries, FamilyView, Job, Core, lowest_level, runs_of, tables_in, level_at, memories, walk, find_mark, is_input, live_numbers}
 use Rattle.core_model.specs.RelationParts.{IsView, IsFlush, IsKept, KeepsReads}
 use Rattle.core_model.specs.Step.{joined_entries}
@@ -18,6 +16,10 @@ use Rattle.core_laws.proofs.Lists.{flat_at, at_flat}
 use Rattle.core_laws.proofs.InstalledLevels.{outputs_each, input_each, column_each, installed_each}
 use Rattle.core_laws.proofs.Middle.{inputs_are_middle, outputs_are_middle, drops_have_nothing_below, flush_is_middle, level_lt}
 use Rattle.core_laws.proofs.FlushedOwn.{each_without_last, flat_more}
+use Rattle.st_order.specs.Columns.{column}
+use Rattle.job_model.specs.Column.{found_at, compacted}
+use Rattle.job_model.specs.Compaction.{IsCompaction}
+use Rattle.job_model.specs.Drops.{covers}
 
 -- ---- what holds of each entry
 

@@ -20,7 +20,6 @@ use Rattle.st_model.specs.Refusals.{shape_refusals, meeting_refusals, meeting_re
 use Rattle.st_model.specs.Request.{Argument, files_from, range_of_file, meeting, asks_behind as is_behind_argument}
 use Rattle.st_model.specs.State.{greatest_number, has_family, new_family}
 use Rattle.base_laws.proofs.Lists.{append_none, each_join}
-use Rattle.core_model.specs.Column.{Pairwise}
 use Rattle.core_model.specs.Commit.{outline, comes_behind, memory_key, RequestFile, request_files_of, request_files_after, request_files, family_at, plan_file, plan_behind, plan_by_rule, put_planned, plan_from, plan, behind_fit_refusal, number_refusal, level_refusal, is_numbered, plan_charge, commit_refusals}
 use Rattle.core_model.specs.Event.{request_of_parts, argument_of_part, arguments_after}
 use Rattle.core_model.specs.Relation.{Represents}
@@ -35,6 +34,7 @@ use Rattle.core_laws.proofs.FileColumns.{each_append}
 use Rattle.core_laws.proofs.FileJobs.{each_of, each_with}
 use Rattle.core_laws.proofs.NoneLeft.{map_none, take_none, filter_none, filter_map_none, filtered_each, map_option_none, find_none, none_meeting, none_repeated}
 use Rattle.core_laws.proofs.Lists.{pairs_join}
+use Rattle.st_order.specs.Columns.{Pairwise}
 
 -- ---- what the model's tests say of each part
 

@@ -52,7 +52,7 @@ next_place core state plan_file stands none is = record {
   turn = tt;
   views = stands.views;
   files = stands.files;
-  noted = record { numbers = stands.noted.numbers; outputs = stands.noted.outputs; made = stands.noted.made; families = stands.noted.families };
+  noted = record { numbers = stands.noted.numbers; outputs = stands.noted.outputs; made = stands.noted.made; families = stands.noted.families; live = stands.noted.live };
   sound = record {
     names = stands.sound.names;
     bases = stands.sound.bases;
@@ -96,7 +96,7 @@ turn_ends core state stands = record {
   turn = tt;
   views = stands.views;
   files = stands.files;
-  noted = record { numbers = stands.noted.numbers; outputs = stands.noted.outputs; made = stands.noted.made; families = stands.noted.families };
+  noted = record { numbers = stands.noted.numbers; outputs = stands.noted.outputs; made = stands.noted.made; families = stands.noted.families; live = stands.noted.live };
   sound = stands.sound;
 }
   where

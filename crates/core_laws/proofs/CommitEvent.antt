@@ -21,7 +21,8 @@ use Rattle.st_model.specs.Request.{Argument, asks_behind as is_behind_argument}
 use Rattle.st_model.specs.State.{greatest_number}
 use Rattle.base_laws.proofs.Lists.{append_none, each_join}
 use Rattle.core_model.specs.Commit.{outline, comes_behind, RequestFile, Planned, request_files_of, request_files_after, plan_from, plan_file, plan_behind, plan_by_rule, put_planned, plan, behind_fit_refusal, number_refusal, level_refusal, is_numbered, plan_charge, placed_files, files_taken, commit_refusals, committed}
-use Rattle.core_model.specs.Event.{IngestCommitted, request_of_parts, argument_of_part, arguments_after, Received, Refused}
+use Rattle.core_model.specs.Event.{IngestCommitted, request_of_parts, argument_of_part, arguments_after}
+use Rattle.core_model.specs.declared.reply.CoreReply.TheVariants.{Received, Refused}
 use Rattle.core_model.specs.Relation.{Represents}
 use Rattle.core_model.specs.Picture.{FileEntries, FamilyView, Part, Turn, Core, level_at, lowest_level, table_range}
 use Rattle.core_model.specs.Run.{applied, Refines, IsRequestAnswer, IsModelAnswer, next_state}

@@ -14,7 +14,7 @@ use Rattle.core_model.specs.Compaction.{with_compacted, staying, put_all}
 use Rattle.core_laws.specs.SoundCore.{IsSoundCore, IdsDiffer, CompactInstalledKeepsSound}
 use Rattle.core_model.specs.Pick.{joint_range}
 use Rattle.core_model.specs.Picture.{FileEntries, FamilyView, Job, Core, lowest_level, runs_of, tables_in, level_at, memories, is_input, is_flush, jobs_of, put_by_key}
-use Rattle.core_model.specs.RelationParts.{IsView, HasEntry, LevelsApart, IsRunning, IsFlush, AreApart, JobsRun, KeepsReads, IsSortedRun, FitsSizes}
+use Rattle.core_model.specs.RelationParts.{IsView, HasEntry, LevelsApart, IsRunning, IsFlush, JobsApart, JobsRun, KeepsReads, IsSortedRun, FitsSizes}
 use Rattle.core_model.specs.Step.{installed, without_job, noted_job, AreOutputs}
 use Rattle.core_laws.proofs.Lists.{at, at_map, flat, flat_at, at_flat}
 use Rattle.core_laws.proofs.Members.{In, each_in, in_filter, found_in, pairs_in, each_by_in, Differ, hits, hits_filter, hits_set, hits_map}
@@ -43,26 +43,26 @@ hits_put_all f (table ∷ outputs) tables =
 pub compacted_hits : (job : Job) (outputs : List FileEntries) (f : ℕ) (family : FamilyView) → hits f (tables_in (with_compacted job outputs family).levels) ≤ hits f outputs + hits f (tables_in family.levels)
 compacted_hits job outputs f family = elim (cases_lt job.level (length family.levels)) [
   | inl lt ↦
-      let s : hits f (flat (set left job.level new)) + hits f (at left job.level) ≡ hits f new + hits f (flat left) = hits_set f left job.level new (subst (λ (k : ℕ). job.level < k) (sym (length-map family.levels (staying job))) lt) in
-      let a : hits f (at left job.level) ≡ hits f (staying job (level_at family job.level)) = at_map (λ tables. hits f tables ≡ hits f (staying job (level_at family job.level))) (staying job) family.levels job.level refl refl in
-      let n : hits f new ≡ hits f outputs + hits f (staying job (level_at family job.level)) = hits_put_all f outputs (staying job (level_at family job.level)) in
+      let s : hits f (flat (set left job.level new)) + hits f (at left job.level) ≡ hits f new + hits f (flat left) = hits_set f left job.level new (subst (λ (k : ℕ). job.level < k) (sym (length-map family.levels (staying job.files))) lt) in
+      let a : hits f (at left job.level) ≡ hits f (staying job.files (level_at family job.level)) = at_map (λ tables. hits f tables ≡ hits f (staying job.files (level_at family job.level))) (staying job.files) family.levels job.level refl refl in
+      let n : hits f new ≡ hits f outputs + hits f (staying job.files (level_at family job.level)) = hits_put_all f outputs (staying job.files (level_at family job.level)) in
       let l : hits f (flat left) ≤ hits f (flat family.levels) = less in
       omega arith
   | inr past ↦
-      let e : set left job.level new ≡ left = beyond left job.level new (subst (λ (k : ℕ). k ≤ job.level) (sym (length-map family.levels (staying job))) past) in
+      let e : set left job.level new ≡ left = beyond left job.level new (subst (λ (k : ℕ). k ≤ job.level) (sym (length-map family.levels (staying job.files))) past) in
       let a : hits f (flat (set left job.level new)) ≡ hits f (flat left) = ap (λ (levels : List (List FileEntries)). hits f (flat levels)) e in
       let l : hits f (flat left) ≤ hits f (flat family.levels) = less in
       omega arith
 ]
   where
     left : List (List FileEntries)
-    left = map (staying job) family.levels
+    left = map (staying job.files) family.levels
 
     new : List FileEntries
-    new = put_all outputs (staying job (level_at family job.level))
+    new = put_all outputs (staying job.files (level_at family job.level))
 
     less : hits f (flat left) ≤ hits f (flat family.levels)
-    less = hits_map f (staying job) (λ tables. hits_filter f (λ table. not (is_input job table)) tables) family.levels
+    less = hits_map f (staying job.files) (λ tables. hits_filter f (λ table. not (is_input job table)) tables) family.levels
 
     beyond : (levels : List (List FileEntries)) (i : ℕ) (v : List FileEntries) → length levels ≤ i → set levels i v ≡ levels
     beyond [] i v le = refl
@@ -112,8 +112,8 @@ module _ (core : Core) (job : Job) (outputs : List FileEntries) (own : IsSoundCo
     pub outputs_of : AreOutputsOf job outputs
     outputs_of = record { joined = outs.joined; some = outs.some; apart = outs.apart; fresh = fresh job mine positive }
 
-    beside : (one : Job) → In one (jobs_of core family) → is_other job.number one ≡ true → AreApart (lowest_level core) job one
-    beside one in_it other = elim (each_in (λ (k : Job). (job ≡ k) ⊎ AreApart (lowest_level core) job k) one (jobs_of core family) (pairs_in (AreApart (lowest_level core)) (apart_back (lowest_level core)) job (jobs_of core family) run.apart mine) in_it) [
+    beside : (one : Job) → In one (jobs_of core family) → is_other job.number one ≡ true → JobsApart (lowest_level core) job one
+    beside one in_it other = elim (each_in (λ (k : Job). (job ≡ k) ⊎ JobsApart (lowest_level core) job k) one (jobs_of core family) (pairs_in (JobsApart (lowest_level core)) (apart_back (lowest_level core)) job (jobs_of core family) run.apart mine) in_it) [
       | inl same ↦ absurd (let e : (one.number == job.number) ≡ true = eq-eqb one.number job.number (ap (λ (k : Job). k.number) (sym same)) in
           let f : (one.number == job.number) ≡ false = not-true (one.number == job.number) other in let w : true ≡ false = sym e ∙ f in cc)
       | inr apart ↦ apart
@@ -190,7 +190,7 @@ module _ (core : Core) (job : Job) (outputs : List FileEntries) (own : IsSoundCo
 
 pub compact_installed_own : CompactInstalledKeepsSound
 compact_installed_own core number outputs answer after own ids now does =
-    let both = some_both (noted_job core number) (λ job. (is_flush job ≡ false) × AreOutputs core job outputs) (λ job. (answer ≡ cond (Rattle.core_model.specs.Step.is_there core job) Rattle.core_model.specs.Event.Done Rattle.core_model.specs.Event.FamilyGone) × (after ≡ installed core job (with_compacted job outputs))) now does in
+    let both = some_both (noted_job core number) (λ job. (is_flush job ≡ false) × AreOutputs core job outputs) (λ job. (answer ≡ cond (Rattle.core_model.specs.Step.is_there core job) Rattle.core_model.specs.declared.reply.CoreReply.TheVariants.Done Rattle.core_model.specs.declared.reply.CoreReply.TheVariants.FamilyGone) × (after ≡ installed core job (with_compacted job outputs))) now does in
     subst IsSoundCore (sym both.3.1) (compacted_own core both.0 outputs own ids (found_in (λ (job : Job). job.number == number) both.0 core.jobs both.1).0 (some_level both.0 both.2.0) both.2.1)
   where
     some_level : (job : Job) → is_flush job ≡ false → 1 ≤ job.level

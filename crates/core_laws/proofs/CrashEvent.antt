@@ -1,5 +1,5 @@
 -- Crashed: the core after it stands for the state of the opening.
-use Rattle.std.proofs.Common.{◌≡◌, ℕ, ◌+◌, ◌<◌, ◌≤◌, ◌⊎◌, max, Bool, true, false, cond, ◌||◌, ◌==◌, List, [], ◌∷◌, length, map, filter, set, None, unwrap_or, refl, sym, ap, subst, subst₂, ◌∙◌, inl, inr, arith}
+use Rattle.std.proofs.Common.{◌≡◌, ℕ, ◌+◌, ◌<◌, ◌≤◌, ◌⊎◌, max, Bool, true, false, cond, ◌||◌, ◌==◌, List, [], ◌∷◌, length, map, filter, set, None, unwrap_or, refl, sym, ap, subst, subst₂, ◌∙◌, inl, inr, arith, suc}
 use Rattle.std.specs.Prelude.{IsTrue, MatchBool, flat_map, nat_lt, fold, slice_get}
 use Rattle.std.specs.List.{list_any, AllByRecursion as Each, AllZip}
 use Rattle.std.proofs.lemmas.Bool.{false≢true, lt-ltb, le-ltb, eqb-true, eq-eqb, or_left, or_right, cases_lt, cases_order}
@@ -13,9 +13,9 @@ use Rattle.st_model.specs.Contents.{newest_marks, is_kept, kept_marks, as_entry,
 use Rattle.st_base.specs.Range.{keys_of}
 use Rattle.st_model.specs.Sound.{IsSound, KeysRise, WritesWithin}
 use Rattle.base_laws.proofs.Lists.{each_all, each_as, each_back, each_front, each_join}
-use Rattle.core_model.specs.Column.{Pairwise}
 use Rattle.core_model.specs.Crash.{newest_of, opened_charge, IsFlushedByCrash, memory_ids, rank, Reopens, known_keys, IsCrashed}
-use Rattle.core_model.specs.Event.{CoreReply, Crashed}
+use Rattle.core_model.specs.Event.{Crashed}
+use Rattle.core_model.specs.declared.reply.CoreReply.{CoreReply}
 use Rattle.core_model.specs.Relation.{Represents}
 use Rattle.core_model.specs.Picture.{FileEntries, FamilyView, Core, tables_in, walk, lowest_level, live_numbers}
 use Rattle.core_model.specs.Run.{IsCoreStep, Refines, next_state}
@@ -28,6 +28,8 @@ use Rattle.core_laws.proofs.NamedLists.{Zipped, zip_to, zip_right, lefts, rights
 use Rattle.core_laws.proofs.FamilyPair.{Pair, pairs_stand, stands_of, ids_zip, zip_ids}
 use Rattle.core_laws.proofs.ChangesSound.{Rise, Families, families_of, sound_of}
 use Rattle.core_laws.proofs.Lists.{pairs_across, pairs_as, pairs_back, pairs_front, pairs_join}
+use Rattle.st_order.specs.Columns.{Pairwise}
+use Rattle.std.proofs.lemmas.List.{length-map}
 
 -- ---- three lists side by side
 
@@ -178,6 +180,50 @@ ranked (f ∷ fs) = by (has_memory f) refl (ranked fs)
     )
     by false e rest = ((λ h. absurd (false≢true (sym e ∙ h))), rest)
 
+abbrev IsRanked : Core → List ℕ × FamilyView → Type 0
+IsRanked core named = has_memory named ≡ true → has_id (memory_ids core) named.1.id ≡ true
+
+-- families with memtables, whose ids differ, have differing ranks
+pub ranks_apart : (core : Core) → Pairwise (λ one other. one.1.id ≡ other.1.id → ⊥) core.families
+    → Pairwise (λ one other. has_memory one ≡ true → has_memory other ≡ true → rank core one.1.id ≡ rank core other.1.id → ⊥) core.families
+ranks_apart core ids = go core.families (ranked core.families) ids
+  where
+    go : (fs : List (List ℕ × FamilyView)) → Each (IsRanked core) fs → Pairwise (λ one other. one.1.id ≡ other.1.id → ⊥) fs
+        → Pairwise (λ one other. has_memory one ≡ true → has_memory other ≡ true → rank core one.1.id ≡ rank core other.1.id → ⊥) fs
+    go [] each ids = tt
+    go (f ∷ fs) each ids = (
+      each_as (λ (other : List ℕ × FamilyView). (f.1.id ≡ other.1.id → ⊥) × IsRanked core other) (λ (other : List ℕ × FamilyView). has_memory f ≡ true → has_memory other ≡ true → rank core f.1.id ≡ rank core other.1.id → ⊥)
+          (λ other both m m' e. ranks_differ (memory_ids core) f.1.id other.1.id both.0 (each.0 m) (both.1 m') e) fs (each_both (λ (other : List ℕ × FamilyView). f.1.id ≡ other.1.id → ⊥) (IsRanked core) fs ids.0 each.1),
+      go fs each.1 ids.1,
+    )
+
+count_most : (ids : List ℕ) (a : ℕ) → count_below ids a ≤ length ids
+count_most [] a = omega arith
+count_most (x ∷ xs) a = by (nat_lt x a) (count_most xs a)
+  where
+    by : (s : Bool) → count_below xs a ≤ length xs → length (cond s (x ∷ filter (λ other. nat_lt other a) xs) (filter (λ other. nat_lt other a) xs)) ≤ suc (length xs)
+    by true le = omega arith
+    by false le = omega arith
+
+count_within : (ids : List ℕ) (a : ℕ) → has_id ids a ≡ true → count_below ids a < length ids
+count_within [] a h = absurd (false≢true h)
+count_within (x ∷ xs) a h = by (x == a) refl (cases_lt x a) (count_most xs a) (count_within xs a)
+  where
+    pick : (s : Bool) → nat_lt x a ≡ s → length (cond s (x ∷ filter (λ other. nat_lt other a) xs) (filter (λ other. nat_lt other a) xs)) < suc (length xs) → count_below (x ∷ xs) a < suc (length xs)
+    pick s e k = subst (λ s. length (cond s (x ∷ filter (λ other. nat_lt other a) xs) (filter (λ other. nat_lt other a) xs)) < suc (length xs)) (sym e) k
+
+    by : (t : Bool) → (x == a) ≡ t → (x < a) ⊎ (a ≤ x) → count_below xs a ≤ length xs → (has_id xs a ≡ true → count_below xs a < length xs) → count_below (x ∷ xs) a < suc (length xs)
+    by true e p most more = let at : x ≡ a = eqb-true x a e in pick false (le-ltb x a (omega arith)) (omega arith)
+    by false e (inl p) most more = let later = more (subst (λ t. (t || has_id xs a) ≡ true) e h) in pick true (lt-ltb x a p) (omega arith)
+    by false e (inr p) most more = pick false (le-ltb x a p) (omega arith)
+
+-- a rank is below the count of families with memtables
+pub rank_below : (core : Core) → Each (λ named. has_memory named ≡ true → rank core named.1.id < length (filter has_memory core.families)) core.families
+rank_below core =
+    each_as (IsRanked core) (λ named. has_memory named ≡ true → rank core named.1.id < length (filter has_memory core.families))
+    (λ named there m. subst (λ n. rank core named.1.id < n) (length-map (filter has_memory core.families) (λ (one : List ℕ × FamilyView). one.1.id)) (count_within (memory_ids core) named.1.id (there m)))
+    core.families (ranked core.families)
+
 abbrev Differ : FileEntries → FileEntries → Type 0
 Differ one other = one.file ≡ other.file → ⊥
 
@@ -271,7 +317,7 @@ crashed_stands core state first after s old c = subst (λ a. Represents a then) 
           (pairs_with core.families (ranked core.families)
           (pairs_beside (λ (k : ModelFamily) (f : FamilyView). f.id ≡ k.id) (λ one other. one.1.id ≡ other.1.id → ⊥) (λ one other. one.1.id ≡ other.1.id → ⊥) (λ x x' y y' w w' r e. r (sym w.1 ∙ e ∙ w'.1)) state.families core.families
           (zip_turned (λ (f : FamilyView) (k : ModelFamily). f.id ≡ k.id) core.families state.families (ids_zip core.families state.families s.same.families)) (families_of state s.sound).ids)));
-      noted = record { numbers = tt; made = λ few. tt; families = tt; outputs = tt };
+      noted = record { numbers = tt; made = λ few. tt; families = tt; outputs = tt; live = tt };
     })
     tt
     (opened_sound state (known_keys core) s.sound (zip_opened b Q IsReborn (λ f name k h. (refl, (subst Rise (sym (reborn_base b f name k)) (reborn_rise b k h.0), (refl, λ e. ap sorted_ranges e)))) core.families state.families sides)))

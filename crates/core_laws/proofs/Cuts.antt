@@ -14,9 +14,9 @@ use Rattle.st_base.specs.Range.{meet, range_of, key_at_front, key_at_end}
 use Rattle.base_laws.proofs.Keys.{at_most_itself, below_at_most_below, below_not, rest_in_order}
 use Rattle.base_laws.proofs.Lists.{each_as}
 use Rattle.base_laws.proofs.Ranges.{front_least}
-use Rattle.core_model.specs.Column.{Pairwise}
-use Rattle.core_model.specs.Compaction.{cut_behind, cut_tables}
 use Rattle.core_laws.proofs.Lists.{pairs_as}
+use Rattle.st_order.specs.Columns.{Pairwise}
+use Rattle.job_model.specs.Compaction.{cut_behind, cut_tables}
 
 joined_behind : (target charge : ℕ) (key : List ℕ) (table entries : List Entry) → flat_map (λ one. one) (cut_behind target charge key table entries) ≡ table ++ entries
 joined_behind target charge key table [] = refl

@@ -6,16 +6,18 @@ use Rattle.std.proofs.lemmas.Bool.{cases_Bool, cases_lt, and_parts, leb-true, lt
 use Rattle.st_base.specs.declared.entry.Entry.{Entry}
 use Rattle.base_laws.proofs.Lists.{each_as, each_back, each_front, each_join, filter_whole}
 use Rattle.core_laws.specs.Claims.{KeptFalls, Compacts, AreOutputsOf}
-use Rattle.core_model.specs.Column.{Pairwise, of_key, column, Falls, FallStrictly, is_read_between, kept, kept_behind, is_gone, without_tombstone, compacted}
-use Rattle.core_model.specs.Compaction.{IsCompaction, without_last, with_flushed, with_compacted, staying, put_all}
-use Rattle.core_model.specs.Drops.{covers}
+use Rattle.core_model.specs.Compaction.{without_last, with_flushed, with_compacted, staying, put_all}
 use Rattle.core_model.specs.Picture.{FileEntries, FamilyView, Job, level_at, runs_of, tables_in, memories, above, is_input}
 use Rattle.core_model.specs.RelationParts.{IsView, IsFlush, IsInputLevel, NumbersFall}
+use Rattle.job_model.specs.Column.{Falls, is_read_between, kept, kept_behind, is_gone, without_tombstone, compacted}
 use Rattle.core_laws.proofs.Columns.{compacted_each, compacted_pairs, untombed_each}
 use Rattle.core_laws.proofs.LevelLists.{filter_levels}
 use Rattle.core_laws.proofs.Middle.{in_tables, in_append, column_append, tables_above, level_lt, none_below, none_beside, inputs_split, level_splits, others_first, placed_column, outputs_column, regroup, regroup_flush, regroup_outputs}
 use Rattle.core_laws.proofs.Lists.{pairs_across, pairs_as, pairs_back, pairs_front, pairs_join}
 use Rattle.core_laws.proofs.ByPlace.{each_both}
+use Rattle.st_order.specs.Columns.{Pairwise, of_key, column, FallStrictly}
+use Rattle.job_model.specs.Compaction.{IsCompaction}
+use Rattle.job_model.specs.Drops.{covers}
 
 -- ---- one column
 
@@ -201,7 +203,7 @@ FallAt family n key = Falls (column key (above family n)) (column key (runs_of (
 -- below the output level tables stay
 pub stays_below : (low : ℕ) (family : FamilyView) (job : Job) (outputs : List FileEntries) (m : ℕ) → Compacts low family job → job.level < m → level_at (with_compacted job outputs family) m ≡ level_at family m
 stays_below low family job outputs m compacts lt =
-    level_set_below (staying job) refl family.levels job.level m (put_all outputs (staying job (level_at family job.level))) lt
+    level_set_below (staying job.files) refl family.levels job.level m (put_all outputs (staying job.files (level_at family job.level))) lt
     ∙ filter_whole (λ table. not (is_input job table)) (level_at family m)
     (each_as (λ table. IsTrue (is_input job table) → IsInputLevel low job.level m) (λ table. not (is_input job table) ≡ true) (λ table near. not_there table near) (level_at family m) (compacts.running.levels m))
   where
@@ -229,10 +231,10 @@ above_level low family job outputs key m compacts are lt le falls =
     B = level_at family job.level
 
     sA : List FileEntries
-    sA = staying job (tables_above family job)
+    sA = staying job.files (tables_above family job)
 
     sB : List FileEntries
-    sB = staying job (level_at family job.level)
+    sB = staying job.files (level_at family job.level)
 
     C : List FileEntries
     C = tables_in (drop (suc job.level) (take m family.levels))
@@ -243,7 +245,7 @@ above_level low family job outputs key m compacts are lt le falls =
     p : FileEntries → Bool
     p = is_input job
 
-    before : column key (above family m) ≡ (column key (memories family) ++ in_tables key (staying job (tables_above family job))) ++ (column key job.inputs ++ (in_tables key (staying job (level_at family job.level)) ++ in_tables key (tables_in (drop (suc job.level) (take m family.levels)))))
+    before : column key (above family m) ≡ (column key (memories family) ++ in_tables key (staying job.files (tables_above family job))) ++ (column key job.inputs ++ (in_tables key (staying job.files (level_at family job.level)) ++ in_tables key (tables_in (drop (suc job.level) (take m family.levels)))))
     before =
         column_append key (memories family) (runs_of (tables_in (take m family.levels)))
         ∙ ap (λ tables. M ++ in_tables key tables) (take_split family.levels job.level m lt le)
@@ -256,19 +258,19 @@ above_level low family job outputs key m compacts are lt le falls =
     stays : FileEntries → Bool
     stays table = not (is_input job table)
 
-    behind : tables_in (map (staying job) (drop (suc job.level) (take m family.levels))) ≡ tables_in (drop (suc job.level) (take m family.levels))
+    behind : tables_in (map (staying job.files) (drop (suc job.level) (take m family.levels))) ≡ tables_in (drop (suc job.level) (take m family.levels))
     behind =
         filter_levels stays (drop (suc job.level) (take m family.levels))
         ∙ filter_whole stays C (each_as (λ table. is_input job table ≡ false) (λ table. stays table ≡ true) (λ table e. ap not e) C
         (drop_take_each (λ table. is_input job table ≡ false) family.levels (suc job.level) m
         (subst (λ n. Each (λ table. is_input job table ≡ false) (tables_in (drop n family.levels))) (add-one job.level) (none_below low family job compacts))))
 
-    after : column key (above (with_compacted job outputs family) m) ≡ (column key (memories family) ++ in_tables key (staying job (tables_above family job))) ++ (compacted job.live (covers job.drops key) (column key job.inputs) ++ (in_tables key (staying job (level_at family job.level)) ++ in_tables key (tables_in (drop (suc job.level) (take m family.levels)))))
+    after : column key (above (with_compacted job outputs family) m) ≡ (column key (memories family) ++ in_tables key (staying job.files (tables_above family job))) ++ (compacted job.live (covers job.drops key) (column key job.inputs) ++ (in_tables key (staying job.files (level_at family job.level)) ++ in_tables key (tables_in (drop (suc job.level) (take m family.levels)))))
     after =
         column_append key (memories family) (runs_of (tables_in (take m (with_compacted job outputs family).levels)))
         ∙ ap (λ tables. M ++ in_tables key tables)
-        (take_set (staying job) family.levels job.level m (put_all outputs sB) lt le
-        ∙ ap (λ front. front ++ (put_all outputs sB ++ tables_in (map (staying job) (drop (suc job.level) (take m family.levels))))) (filter_levels stays (take job.level family.levels))
+        (take_set (staying job.files) family.levels job.level m (put_all outputs sB) lt le
+        ∙ ap (λ front. front ++ (put_all outputs sB ++ tables_in (map (staying job.files) (drop (suc job.level) (take m family.levels))))) (filter_levels stays (take job.level family.levels))
         ∙ ap (λ rest. sA ++ (put_all outputs sB ++ rest)) behind)
         ∙ ap (λ rest. M ++ rest) (in_append key sA (put_all outputs sB ++ C) ∙ ap (λ rest. in_tables key sA ++ rest) (in_append key (put_all outputs sB) C))
         ∙ ap (λ rest. M ++ (in_tables key sA ++ (rest ++ in_tables key C))) (placed_column low family job outputs key compacts are)
@@ -294,35 +296,35 @@ at_level low family job outputs key compacts are falls =
     B = level_at family job.level
 
     sA : List FileEntries
-    sA = staying job (tables_above family job)
+    sA = staying job.files (tables_above family job)
 
     sB : List FileEntries
-    sB = staying job (level_at family job.level)
+    sB = staying job.files (level_at family job.level)
 
     p : FileEntries → Bool
     p = is_input job
 
-    before : column key (above family job.level) ≡ (column key (memories family) ++ in_tables key (staying job (tables_above family job))) ++ in_tables key (filter (is_input job) (tables_above family job))
+    before : column key (above family job.level) ≡ (column key (memories family) ++ in_tables key (staying job.files (tables_above family job))) ++ in_tables key (filter (is_input job) (tables_above family job))
     before =
         column_append key (memories family) (runs_of A)
         ∙ ap (λ rest. M ++ rest) (others_first p key A compacts.running.below)
         ∙ sym (append_assoc M (in_tables key sA) (in_tables key (filter p A)))
 
-    after : column key (above (with_compacted job outputs family) job.level) ≡ column key (memories family) ++ in_tables key (staying job (tables_above family job))
+    after : column key (above (with_compacted job outputs family) job.level) ≡ column key (memories family) ++ in_tables key (staying job.files (tables_above family job))
     after =
         column_append key (memories family) (runs_of (tables_in (take job.level (with_compacted job outputs family).levels)))
         ∙ ap (λ tables. M ++ in_tables key tables)
-        (ap tables_in (take_set_at (staying job) family.levels job.level (put_all outputs sB) (level_lt low family job compacts)) ∙ filter_levels (λ table. not (is_input job table)) (take job.level family.levels))
+        (ap tables_in (take_set_at (staying job.files) family.levels job.level (put_all outputs sB) (level_lt low family job compacts)) ∙ filter_levels (λ table. not (is_input job table)) (take job.level family.levels))
 
     lower : column key (runs_of (level_at (with_compacted job outputs family) job.level))
-        ≡ compacted job.live (covers job.drops key) (in_tables key (filter (is_input job) (tables_above family job)) ++ in_tables key (filter (is_input job) (level_at family job.level))) ++ in_tables key (staying job (level_at family job.level))
+        ≡ compacted job.live (covers job.drops key) (in_tables key (filter (is_input job) (tables_above family job)) ++ in_tables key (filter (is_input job) (level_at family job.level))) ++ in_tables key (staying job.files (level_at family job.level))
     lower =
-        ap (in_tables key) (level_set_at (staying job) family.levels job.level (put_all outputs sB) (level_lt low family job compacts))
+        ap (in_tables key) (level_set_at (staying job.files) family.levels job.level (put_all outputs sB) (level_lt low family job compacts))
         ∙ placed_column low family job outputs key compacts are
         ∙ ap (λ front. front ++ in_tables key sB) (outputs_column job outputs key are ∙ ap (compacted job.live (covers job.drops key)) (inputs_split low family job key compacts))
 
     side : (found : List Entry) → column key job.inputs ≡ found
-        → (in_tables key (filter (is_input job) (tables_above family job)) ++ in_tables key (filter (is_input job) (level_at family job.level)) ≡ []) ⊎ (in_tables key (staying job (level_at family job.level)) ≡ [])
+        → (in_tables key (filter (is_input job) (tables_above family job)) ++ in_tables key (filter (is_input job) (level_at family job.level)) ≡ []) ⊎ (in_tables key (staying job.files (level_at family job.level)) ≡ [])
     side [] none = inl (sym (inputs_split low family job key compacts) ∙ none)
     side (entry ∷ entries) some = inr (none_beside low family job key compacts (omega (arith, ap length some)))
 

@@ -19,9 +19,10 @@ use Rattle.st_model.specs.Apply.{apply, names_rightly}
 use Rattle.st_model.specs.State.{has_family, new_family, most_families, last_family_id}
 use Rattle.base_laws.proofs.Lists.{each_all, each_as, each_back, each_filter, each_front, each_join, filter_none}
 use Rattle.st_base.proofs.Same.{same_true}
-use Rattle.core_model.specs.Column.{Pairwise}
 use Rattle.core_model.specs.Commit.{outline}
-use Rattle.core_model.specs.Event.{CoreReply, Seal, MakeFamily, DropFamily, At}
+use Rattle.core_model.specs.Event.{Seal, MakeFamily, DropFamily}
+use Rattle.core_model.specs.declared.reply.CoreReply.{CoreReply}
+use Rattle.core_model.specs.declared.reply.CoreReply.TheVariants.{At}
 use Rattle.core_model.specs.Relation.{Represents}
 use Rattle.core_model.specs.Picture.{FileEntries, FamilyView, Job, Core, lowest_level, tables_in, memories, jobs_of, live_numbers, new_view}
 use Rattle.core_model.specs.Run.{IsCoreStep, Refines, next_state, answer_or}
@@ -34,6 +35,7 @@ use Rattle.core_laws.proofs.FamilyPair.{Pair, Stays, pairs_stand, rest_stands, s
 use Rattle.core_laws.proofs.ChangesSound.{apply_sound, set_each}
 use Rattle.core_laws.proofs.FileColumns.{nil_left, nil_right}
 use Rattle.core_laws.proofs.Lists.{pairs_across, pairs_back, pairs_front, pairs_join}
+use Rattle.st_order.specs.Columns.{Pairwise}
 
 -- ---- Seal
 
@@ -84,7 +86,7 @@ core_names core state s = pairs_beside (λ (k : ModelFamily) (f : FamilyView). f
 
 pub sealed_stands : (core : Core) (state : ModelState) (name : List ℕ) → Represents core state → IsSomeAnd (value_at core.families name) (λ family. 1 ≤ length family.mem) → Represents (with_sealed core name) state
 sealed_stands core state name s now = stands_of (with_sealed core name) state same_after pairs
-    (rest_left core (with_sealed core name) (record { families = stays; jobs = refl; made = refl; next = omega arith; behind = refl; last = omega arith; live = λ job began h. h }) (rest_stands core state s))
+    (rest_left core (with_sealed core name) (record { families = stays; jobs = refl; made = refl; next = omega arith; behind = refl; last = omega arith; live = λ job began h. h; fall = λ h. h }) (rest_stands core state s))
     (if_some_to core.turn (HasTurn core) (HasTurn (with_sealed core name)) (λ turn h. turn_left core (with_sealed core name) state turn s.same same_after refl (tables_stay core.families (changed_at core.families name seal) stays) refl h) s.turn)
     s.sound
   where
@@ -190,7 +192,7 @@ made_stands core state name s turn absent = stands_of after (apply state (change
           (each_as (λ (named : List ℕ × FamilyView). Each (KeepsReads core named.1) (jobs_of core named.1)) (λ named. Each (KeepsReads after named.1) (jobs_of after named.1))
           (λ named h. each_as (KeepsReads core named.1) (KeepsReads after named.1) (λ job k. keeps_stays core after named.1 named.1 job refl k.live (omega arith) refl k) (jobs_of core named.1) h) core.families s.kept);
       files = subst (Pairwise (λ one other. one.file ≡ other.file → ⊥)) (sym (set_tables core.families name core.next_family (unnamed core.families name absent))) s.files;
-      noted = record { numbers = s.noted.numbers; outputs = s.noted.outputs; made = s.noted.made; families = each_as (λ (job : Job). job.family < core.next_family) (λ job. job.family < core.next_family + 1) (λ job lt. omega arith) core.jobs s.noted.families };
+      noted = record { numbers = s.noted.numbers; outputs = s.noted.outputs; made = s.noted.made; families = each_as (λ (job : Job). job.family < core.next_family) (λ job. job.family < core.next_family + 1) (λ job lt. omega arith) core.jobs s.noted.families; live = s.noted.live };
     })
     (no_turn core.turn _ turn)
     (apply_sound state (change.Make name) s.sound (ap not (sym (has_alike core state s.same name) ∙ absent)) (λ files e. absurd cc))
@@ -279,7 +281,7 @@ dropped_stands core state name s turn names = stands_of after (apply state (chan
           (each_as (λ (named : List ℕ × FamilyView). Each (KeepsReads core named.1) (jobs_of core named.1)) (λ named. Each (KeepsReads after named.1) (jobs_of after named.1))
           (λ named h. each_as (KeepsReads core named.1) (KeepsReads after named.1) (λ job k. keeps_stays core after named.1 named.1 job refl k.live (omega arith) refl k) (jobs_of core named.1) h) core.families s.kept);
       files = pairs_fewer (λ (named : List ℕ × FamilyView). tables_in named.1.levels) (λ pair. not (same pair.0 name)) (λ one other. one.file ≡ other.file → ⊥) core.families s.files;
-      noted = record { numbers = s.noted.numbers; outputs = s.noted.outputs; made = s.noted.made; families = s.noted.families };
+      noted = record { numbers = s.noted.numbers; outputs = s.noted.outputs; made = s.noted.made; families = s.noted.families; live = s.noted.live };
     })
     (no_turn core.turn _ turn)
     (apply_sound state (change.Drop name) s.sound names (λ files e. absurd cc))

@@ -13,7 +13,6 @@ use Rattle.st_model.specs.Read.{read, mark_at, value_of}
 use Rattle.st_model.specs.Sound.{IsSound, KeysRise, WritesWithin}
 use Rattle.base_laws.proofs.Keys.{at_key}
 use Rattle.base_laws.proofs.Lists.{each_as}
-use Rattle.core_model.specs.Column.{Pairwise}
 use Rattle.core_model.specs.Relation.{Represents}
 use Rattle.core_model.specs.StatePicture.{RepresentsState, state_of}
 use Rattle.core_laws.proofs.OfState.{state_stands}
@@ -23,6 +22,8 @@ use Rattle.core_model.specs.RelationParts.{HaveSame, ForBoth, ForEach, ReadsAs, 
 use Rattle.core_laws.proofs.NamedLists.{NamesDiffer, Zipped, zip_to, zip_both, zip_left, zip_right, lefts, rights, both_of_zip, zip_of_both}
 use Rattle.core_laws.proofs.Lists.{pairs_as}
 use Rattle.core_laws.proofs.Members.{pairs_of_all}
+use Rattle.st_order.specs.Columns.{Pairwise}
+use Rattle.job_model.specs.Drops.{DontFall}
 
 -- ---- the pair
 
@@ -242,6 +243,7 @@ pub record Leaves (core after : Core) : Type 0 where
   pub behind : core.behind ≡ after.behind
   pub last : core.last ≤ after.last
   pub live : (job : Job) → job.began ≤ core.last → Each (IsKept job) (live_numbers core) → Each (IsKept job) (live_numbers after)
+  pub fall : DontFall (live_numbers core) → DontFall (live_numbers after)
 
 pub rest_left : (core after : Core) → Leaves core after → Rest core → Rest after
 rest_left core after l r = record {
@@ -253,6 +255,7 @@ rest_left core after l r = record {
     made = subst₂ (λ (jobs : List Job) (n : ℕ). n < 18446744073709551615 → Each (λ job. job.number ≤ n) jobs) l.jobs l.made r.noted.made;
     outputs = subst (λ (jobs : List Job). Each HasOutputs jobs) l.jobs r.noted.outputs;
     families = subst (λ (jobs : List Job). Each (λ job. job.family < after.next_family) jobs) l.jobs (each_as (λ (job : Job). job.family < core.next_family) (λ job. job.family < after.next_family) (λ job lt. let le : core.next_family ≤ after.next_family = l.next in omega arith) core.jobs r.noted.families);
+    live = l.fall r.noted.live;
   };
 }
   where

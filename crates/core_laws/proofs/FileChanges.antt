@@ -20,10 +20,9 @@ use Rattle.st_model.specs.State.{family_of, is_known}
 use Rattle.base_laws.proofs.Maps.{found_each}
 use Rattle.base_laws.proofs.Ranges.{range_has_keys, under_each}
 use Rattle.core_laws.specs.Claims.{Compacts, mark_of_key, mark_or}
-use Rattle.core_model.specs.Column.{column}
 use Rattle.core_model.specs.Commit.{put_file, renumbered}
 use Rattle.core_model.specs.Relation.{Represents}
-use Rattle.core_model.specs.Level.{least_within, is_free_level, level_rule}
+use Rattle.core_model.specs.Level.{is_free_level, level_rule}
 use Rattle.core_model.specs.Pick.{joint_range}
 use Rattle.core_model.specs.Picture.{FileEntries, FamilyView, Job, Core, lowest_level, level_at, runs_of, tables_in, memories, walk, find_mark, table_range, is_input, jobs_of, running_of, all_tables}
 use Rattle.core_model.specs.Request.{IsStagedTable}
@@ -36,11 +35,13 @@ use Rattle.core_laws.proofs.FileLevels.{file_apart, behind_ranges}
 use Rattle.core_laws.proofs.FileLift.{old_number, last_read}
 use Rattle.core_laws.proofs.FileReads.{numbered_reads, numbered_reads_now, early_reads, behind_reads}
 use Rattle.core_laws.proofs.FileStands.{Changes, state_file}
-use Rattle.core_laws.proofs.LevelRule.{ruled, IsRuled, rule_within}
-use Rattle.core_laws.proofs.RangeKeys.{nothing_within}
+use Rattle.core_laws.proofs.LevelRule.{rule_free_at, rule_within}
+use Rattle.job_laws.proofs.RangeKeys.{nothing_within}
 use Rattle.core_laws.proofs.InstalledLevels.{column_each}
 use Rattle.core_laws.proofs.ReopenedFamily.{knows_run}
 use Rattle.core_laws.proofs.AfterInstall.{lowest_le}
+use Rattle.st_order.specs.Columns.{column}
+use Rattle.st_order.specs.Least.{least_within}
 
 -- ---- lists
 
@@ -222,11 +223,7 @@ module _ (core : Core) (state : ModelState) (stands : Represents core state) (na
 
     -- its level is free
     free_at : 0 < rule_at → is_free_level (table_range table) (level_at family rule_at) ≡ true
-    free_at positive = step (ruled family.levels (running_of core family) (table_range table) (lowest_level core))
-      where
-        step : (rule_at ≡ 0) ⊎ IsRuled family.levels (running_of core family) (table_range table) (lowest_level core) rule_at → is_free_level (table_range table) (level_at family rule_at) ≡ true
-        step (inl none) = absurd (omega arith)
-        step (inr ruled) = ruled.free
+    free_at positive = rule_free_at family.levels (running_of core family) (table_range table) (lowest_level core) positive
 
     -- with the flag level 6 stays
     ranges_stay : (number : ℕ) → core.behind ≡ true → map table_range (level_at (put_file rule_at number table family) 6) ≡ map table_range (level_at family 6)

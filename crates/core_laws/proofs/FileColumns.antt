@@ -10,15 +10,16 @@ use Rattle.st_base.specs.declared.entry.KeyRange.{KeyRange}
 use Rattle.st_base.specs.Range.{is_in_range, meet, under_number, key_at_front}
 use Rattle.base_laws.proofs.Ranges.{both_within_meet, range_has_keys, under_each}
 use Rattle.core_laws.specs.Claims.{FileHeadsColumn, FileEndsColumn}
-use Rattle.core_model.specs.Column.{of_key, column}
 use Rattle.core_model.specs.Commit.{put_table, put_file, renumbered}
-use Rattle.core_model.specs.Level.{least_within, is_free_level, level_rule}
+use Rattle.core_model.specs.Level.{is_free_level, level_rule}
 use Rattle.core_model.specs.Picture.{FileEntries, FamilyView, Job, level_at, runs_of, tables_in, memories, walk, table_range, put_by_key}
 use Rattle.core_model.specs.Request.{IsStagedTable}
 use Rattle.core_laws.proofs.LevelRule.{rule_passes, stop_no_entry, rule_within}
-use Rattle.core_laws.proofs.RangeKeys.{of_key_outside, of_key_inside, nothing_within}
+use Rattle.job_laws.proofs.RangeKeys.{of_key_outside, of_key_inside, nothing_within}
 use Rattle.core_laws.proofs.Middle.{column_append}
 use Rattle.core_laws.proofs.InstalledLevels.{tables_rows}
+use Rattle.st_order.specs.Columns.{of_key, column}
+use Rattle.st_order.specs.Least.{least_within}
 use Rattle.core_model.specs.RelationParts.{IsSortedRun}
 
 -- ---- each

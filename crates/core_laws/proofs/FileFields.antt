@@ -13,19 +13,21 @@ use Rattle.st_model.specs.declared.refusal.Why.{Why}
 use Rattle.st_base.specs.Range.{is_in_range, under_number, with_number}
 use Rattle.base_laws.proofs.Lists.{each_join}
 use Rattle.core_laws.specs.Claims.{mark_of_key, mark_or}
-use Rattle.core_model.specs.Column.{of_key, column, first_at, found_at, FallStrictly, Falls}
 use Rattle.core_model.specs.Commit.{put_table, put_file, renumbered}
-use Rattle.core_model.specs.Level.{least_within, is_free_level, level_rule}
+use Rattle.core_model.specs.Level.{is_free_level, level_rule}
 use Rattle.core_model.specs.Picture.{FileEntries, FamilyView, Job, level_at, runs_of, tables_in, memories, above, walk, find_mark, table_range, put_by_key}
 use Rattle.core_model.specs.Request.{IsStagedTable}
 use Rattle.core_model.specs.RelationParts.{IsView, HasEntry, NumbersFall, NumbersWithin, IsSortedRun, FitsSizes}
+use Rattle.job_model.specs.Column.{Falls, first_at, found_at}
 use Rattle.core_laws.proofs.FileColumns.{put_at, each_append, each_level, level_column, column_inside, staged_within, file_heads_column, file_ends_column, table_none, put_none, put_column, at_heads, zero_heads, free_column, passed_column, least_inside, each_entries}
 use Rattle.core_laws.proofs.FileJobs.{each_of, table_all, entries_all}
 use Rattle.core_laws.proofs.FileReads.{of_under, of_key_one}
 use Rattle.core_laws.proofs.LevelRule.{rule_within, no_cause_no_key}
-use Rattle.core_laws.proofs.RangeKeys.{of_key_outside, nothing_within}
+use Rattle.job_laws.proofs.RangeKeys.{of_key_outside, nothing_within}
 use Rattle.core_laws.proofs.Middle.{column_append}
 use Rattle.core_laws.proofs.InstalledLevels.{column_each, tables_rows}
+use Rattle.st_order.specs.Columns.{of_key, column, FallStrictly}
+use Rattle.st_order.specs.Least.{least_within}
 
 -- ---- what is found of a key
 

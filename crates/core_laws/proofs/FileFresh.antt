@@ -8,7 +8,6 @@ use Rattle.st_base.specs.Map.{value_at, changed_at}
 use Rattle.st_base.proofs.Same.{same_true}
 use Rattle.st_base.specs.Range.{key_at_front}
 use Rattle.base_laws.proofs.Lists.{each_join}
-use Rattle.core_model.specs.Column.{Pairwise}
 use Rattle.core_model.specs.Commit.{put_table, put_file, renumbered, RequestFile}
 use Rattle.core_model.specs.Picture.{FileEntries, FamilyView, Job, tables_in, put_by_key, is_input}
 use Rattle.core_model.specs.Step.{HaveOtherFiles}
@@ -18,6 +17,7 @@ use Rattle.core_laws.proofs.FileJobs.{table_all, pairs_append, each_with}
 use Rattle.core_laws.proofs.FileReads.{not_below_self}
 use Rattle.core_laws.proofs.Lists.{pairs_join}
 use Rattle.core_laws.proofs.InstalledLevels.{put_each}
+use Rattle.st_order.specs.Columns.{Pairwise}
 
 -- ---- one table more among tables that differ from it
 

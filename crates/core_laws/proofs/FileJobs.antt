@@ -12,16 +12,16 @@ use Rattle.st_base.specs.Range.{is_in_range, meet, key_at_front, has_key}
 use Rattle.base_laws.proofs.Lists.{each_join}
 use Rattle.base_laws.proofs.Ranges.{same_range}
 use Rattle.core_laws.specs.Claims.{FileLeavesRunning, FileLeavesReads, BehindLeavesRunning}
-use Rattle.core_model.specs.Column.{Pairwise}
 use Rattle.core_model.specs.Commit.{put_table, put_file, renumbered}
 use Rattle.core_model.specs.Level.{level_rule}
 use Rattle.core_model.specs.Picture.{FileEntries, FamilyView, Job, Core, lowest_level, level_at, runs_of, tables_in, table_range, put_by_key, is_input}
 use Rattle.core_model.specs.RelationParts.{IsCompacting, KeepsReads, ShareNoKey, IsInputLevel}
 use Rattle.core_laws.proofs.FileColumns.{put_at, each_append, staged_within, each_entries}
 use Rattle.core_laws.proofs.LevelRule.{rule_passes, rule_within, stop_no_entry, stop_no_output}
-use Rattle.core_laws.proofs.RangeKeys.{nothing_within, meet_within}
+use Rattle.job_laws.proofs.RangeKeys.{nothing_within, meet_within}
 use Rattle.core_laws.proofs.Lists.{filter_join, pairs_join}
 use Rattle.core_laws.proofs.InstalledLevels.{put_each, put_filter}
+use Rattle.st_order.specs.Columns.{Pairwise}
 
 -- ---- one table more, among those of a level
 

@@ -20,8 +20,9 @@ use Rattle.st_model.specs.Sound.{WritesWithin}
 use Rattle.base_laws.proofs.Keys.{below_trans}
 use Rattle.base_laws.proofs.Maps.{value_set}
 use Rattle.core_laws.specs.Claims.{NumberedReads, NumberedReadsNow, EarlyReads, BehindReads, CoveredHasMark, mark_of_key, mark_or}
-use Rattle.core_model.specs.Column.{of_key, found_at}
 use Rattle.core_laws.proofs.ToldByColumns.{none_of_key, or_assoc}
+use Rattle.st_order.specs.Columns.{of_key}
+use Rattle.job_model.specs.Column.{found_at}
 
 -- ---- maps
 

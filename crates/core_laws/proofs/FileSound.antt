@@ -19,9 +19,9 @@ use Rattle.st_model.specs.Sound.{KeysRise, WritesWithin}
 use Rattle.base_laws.proofs.Keys.{below_trans}
 use Rattle.base_laws.proofs.Lists.{each_filter}
 use Rattle.core_laws.specs.Claims.{FileSound}
-use Rattle.core_model.specs.Column.{Pairwise}
 use Rattle.core_laws.proofs.ByPlace.{from_pairs}
 use Rattle.core_laws.proofs.Members.{pairs_of_all}
+use Rattle.st_order.specs.Columns.{Pairwise}
 
 -- ---- pairs by places and by recursion
 

@@ -16,7 +16,6 @@ use Rattle.st_model.specs.Read.{mark_at, value_of}
 use Rattle.st_model.specs.Sound.{IsSound, WritesWithin}
 use Rattle.st_model.specs.State.{family_of}
 use Rattle.base_laws.proofs.Maps.{found_each}
-use Rattle.core_model.specs.Column.{Pairwise, column}
 use Rattle.core_model.specs.Commit.{put_file}
 use Rattle.core_model.specs.Relation.{Represents}
 use Rattle.core_model.specs.Picture.{FileEntries, FamilyView, Job, Core, lowest_level, jobs_of, all_tables, walk, find_mark}
@@ -28,6 +27,7 @@ use Rattle.core_laws.proofs.FileLift.{changed_value, rising_values, names_rise, 
 use Rattle.core_laws.proofs.FileReads.{mark_last}
 use Rattle.core_laws.proofs.InstalledLevels.{column_each}
 use Rattle.core_laws.proofs.Members.{pairs_of_all}
+use Rattle.st_order.specs.Columns.{Pairwise, column}
 
 module _ (core : Core) (state : ModelState) (name : List ℕ) (level number more : ℕ) (table : FileEntries) (change : ModelFamily → ModelFamily) where
   abbrev pub after_file : Core
@@ -158,7 +158,7 @@ module _ (core : Core) (state : ModelState) (name : List ℕ) (level number more
       turn = subst (λ found. IfSome found (λ turn. IsTurn after_file turn × NamesThere after_file turn.parts × IsRequest turn.parts)) (sym none) tt;
       views = each IsView (λ family here. (of_one family here).view) (λ q family here. found_each IsView core.families q family stands.views here);
       files = fresh;
-      noted = record { numbers = stands.noted.numbers; outputs = stands.noted.outputs; made = stands.noted.made; families = stands.noted.families };
+      noted = record { numbers = stands.noted.numbers; outputs = stands.noted.outputs; made = stands.noted.made; families = stands.noted.families; live = stands.noted.live };
       sound = sound;
     }
       where

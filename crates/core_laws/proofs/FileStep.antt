@@ -18,9 +18,8 @@ use Rattle.st_model.specs.Sound.{IsSound}
 use Rattle.st_model.specs.State.{family_of}
 use Rattle.base_laws.proofs.Maps.{found_each}
 use Rattle.base_laws.proofs.Ranges.{same_range}
-use Rattle.core_model.specs.Column.{Pairwise}
 use Rattle.core_model.specs.Commit.{put_file, renumbered, RequestFile, Planned, comes_behind, family_at, level_choice, planned_number, plan_by_rule, plan_behind, put_planned, taken_in_plan}
-use Rattle.core_model.specs.Level.{least_within, is_free_level}
+use Rattle.core_model.specs.Level.{is_free_level}
 use Rattle.core_model.specs.Picture.{FileEntries, FamilyView, Core, level_at, memories, table_range, put_by_key, all_tables, new_view}
 use Rattle.core_model.specs.RelationParts.{IsView}
 use Rattle.core_model.specs.Step.{HaveOtherFiles}
@@ -34,6 +33,8 @@ use Rattle.core_laws.proofs.FileLift.{value_changed, names_rise, kept_there}
 use Rattle.core_laws.proofs.FileSound.{file_sound}
 use Rattle.core_laws.proofs.FileStands.{Changes, after_file, state_file, lifted}
 use Rattle.core_laws.proofs.Members.{pairs_of_all}
+use Rattle.st_order.specs.Columns.{Pairwise}
+use Rattle.st_order.specs.Least.{least_within}
 
 -- ---- what is left stays ready
 

@@ -11,9 +11,8 @@ use Rattle.core_laws.specs.Claims.{Compacts}
 use Rattle.core_model.specs.Compaction.{with_flushed, without_last}
 use Rattle.core_laws.specs.SoundCore.{IsSoundCore, IdsDiffer, FlushInstalledKeepsSound}
 use Rattle.core_model.specs.Pick.{joint_range}
-use Rattle.core_model.specs.Column.{Pairwise}
 use Rattle.core_model.specs.Picture.{FileEntries, FamilyView, Job, Core, lowest_level, runs_of, tables_in, level_at, memories, is_flush, jobs_of}
-use Rattle.core_model.specs.RelationParts.{IsNewer, IsView, IsLevel, HasEntry, LevelsApart, IsRunning, IsFlush, AreApart, JobsRun, KeepsReads, IsSortedRun, FitsSizes}
+use Rattle.core_model.specs.RelationParts.{IsNewer, IsView, IsLevel, HasEntry, LevelsApart, IsRunning, IsFlush, JobsApart, JobsRun, KeepsReads, IsSortedRun, FitsSizes}
 use Rattle.core_model.specs.Step.{installed, noted_job, AreOutputs}
 use Rattle.core_laws.proofs.Lists.{at, flat}
 use Rattle.core_laws.proofs.Members.{In, each_in, in_filter, found_in, pairs_in, each_by_in, hits}
@@ -21,6 +20,7 @@ use Rattle.core_laws.proofs.InstalledLevels.{outputs_each, tables_rows}
 use Rattle.core_laws.proofs.JobsKeepReads.{flush_leaves_running}
 use Rattle.core_laws.proofs.AfterInstall.{lowest_le, some_both, apart_back, is_other, fewer_run, for_next, jobs_left, noted_next, jobs_same, kept_same, files_next, not_input, outputs_differ}
 use Rattle.core_laws.proofs.Middle.{parts_in_order}
+use Rattle.st_order.specs.Columns.{Pairwise}
 
 pub each_without_last : {X : Type 0} (P : X → Type 0) (xs : List X) → Each P xs → Each P (without_last xs)
 each_without_last P [] each = tt
@@ -83,7 +83,7 @@ module _ (core : Core) (job : Job) (output : FileEntries) (own : IsSoundCore cor
 
     -- each other job is a compaction
     positive : (one : Job) → In one (jobs_of core family) → is_other job.number one ≡ true → 1 ≤ one.level
-    positive one in_it other = elim (each_in (λ (k : Job). (job ≡ k) ⊎ AreApart (lowest_level core) job k) one (jobs_of core family) (pairs_in (AreApart (lowest_level core)) (apart_back (lowest_level core)) job (jobs_of core family) run.apart mine) in_it) [
+    positive one in_it other = elim (each_in (λ (k : Job). (job ≡ k) ⊎ JobsApart (lowest_level core) job k) one (jobs_of core family) (pairs_in (JobsApart (lowest_level core)) (apart_back (lowest_level core)) job (jobs_of core family) run.apart mine) in_it) [
       | inl same ↦ absurd (let e : (one.number == job.number) ≡ true = eq-eqb one.number job.number (ap (λ (k : Job). k.number) (sym same)) in
           let f : (one.number == job.number) ≡ false = not-true (one.number == job.number) other in let w : true ≡ false = sym e ∙ f in cc)
       | inr apart ↦
@@ -172,5 +172,5 @@ module _ (core : Core) (job : Job) (output : FileEntries) (own : IsSoundCore cor
 
 pub flush_installed_own : FlushInstalledKeepsSound
 flush_installed_own core number output answer after own ids now does =
-    let both = some_both (noted_job core number) (λ job. (is_flush job ≡ true) × AreOutputs core job (output ∷ [])) (λ job. (answer ≡ cond (Rattle.core_model.specs.Step.is_there core job) Rattle.core_model.specs.Event.Done Rattle.core_model.specs.Event.FamilyGone) × (after ≡ installed core job (with_flushed output))) now does in
+    let both = some_both (noted_job core number) (λ job. (is_flush job ≡ true) × AreOutputs core job (output ∷ [])) (λ job. (answer ≡ cond (Rattle.core_model.specs.Step.is_there core job) Rattle.core_model.specs.declared.reply.CoreReply.TheVariants.Done Rattle.core_model.specs.declared.reply.CoreReply.TheVariants.FamilyGone) × (after ≡ installed core job (with_flushed output))) now does in
     subst IsSoundCore (sym both.3.1) (flushed_own core both.0 output own ids (found_in (λ (job : Job). job.number == number) both.0 core.jobs both.1).0 (eqb-true both.0.level 0 both.2.0) both.2.1)

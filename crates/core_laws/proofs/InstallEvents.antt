@@ -9,7 +9,8 @@ use Rattle.st_model.specs.Early.{read_numbers}
 use Rattle.st_model.specs.State.{is_known}
 use Rattle.core_laws.specs.Claims.{Compacts, AreOutputsOf}
 use Rattle.core_model.specs.Compaction.{with_flushed, with_compacted}
-use Rattle.core_model.specs.Event.{FlushInstalled, CompactInstalled, Done, FamilyGone}
+use Rattle.core_model.specs.Event.{FlushInstalled, CompactInstalled}
+use Rattle.core_model.specs.declared.reply.CoreReply.TheVariants.{Done, FamilyGone}
 use Rattle.core_model.specs.Relation.{Represents}
 use Rattle.core_laws.specs.SoundCore.{IsSoundCore, IdsDiffer, HasColumns, EventRefines}
 use Rattle.core_model.specs.Picture.{FileEntries, FamilyView, Job, Core, lowest_level, walk, is_flush, jobs_of, live_numbers}

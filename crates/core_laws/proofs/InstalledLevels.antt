@@ -13,15 +13,16 @@ use Rattle.st_base.proofs.Same.{same_true, same_self}
 use Rattle.st_base.specs.Range.{is_in_range, has_key, key_at_front}
 use Rattle.base_laws.proofs.Lists.{each_all, each_any, each_as, each_back, each_filter, each_flat_map, each_map, each_passing, flat_map_each, map_each}
 use Rattle.core_laws.specs.Claims.{Compacts}
-use Rattle.core_model.specs.Column.{Pairwise, of_key, column}
-use Rattle.core_model.specs.Compaction.{IsCompaction, staying, put_all, with_compacted}
-use Rattle.core_model.specs.Drops.{covers}
+use Rattle.core_model.specs.Compaction.{staying, put_all, with_compacted}
 use Rattle.core_model.specs.Picture.{FileEntries, FamilyView, Job, runs_of, tables_in, level_at, memories, is_input, put_by_key}
-use Rattle.core_model.specs.RelationParts.{IsView, IsCompacting, AreApart, input_tables, IsSortedRun}
+use Rattle.core_model.specs.RelationParts.{IsView, IsCompacting, JobsApart, input_tables, IsSortedRun}
 use Rattle.core_model.specs.Step.{joined_entries}
 use Rattle.core_laws.proofs.Columns.{compacted_each}
 use Rattle.core_laws.proofs.Lists.{at_set, at_map, filter_flat, filter_twice}
 use Rattle.core_laws.proofs.JointRange.{Has, joint_has}
+use Rattle.st_order.specs.Columns.{Pairwise, of_key, column}
+use Rattle.job_model.specs.Compaction.{IsCompaction}
+use Rattle.job_model.specs.Drops.{covers}
 
 -- ---- outputs
 
@@ -69,7 +70,7 @@ has_within range entries key has there =
     (λ e is within. subst (λ (k : List ℕ). is_in_range range k ≡ true) (same_true e.key key is) within) has there
 
 -- no table is an input of both
-pub disjoint : (lowest : ℕ) (one other : Job) (table : FileEntries) → AreApart lowest one other → is_input one table ≡ true → is_input other table ≡ false
+pub disjoint : (lowest : ℕ) (one other : Job) (table : FileEntries) → JobsApart lowest one other → is_input one table ≡ true → is_input other table ≡ false
 disjoint lowest one other table apart is =
     each_any (λ (file : ℕ). list_any (λ taken. taken == file) other.files ≡ false) (is_input other table ≡ false) (λ file. file == table.file) one.files
     (λ file e none. subst (λ (f : ℕ). list_any (λ taken. taken == f) other.files ≡ false) (eqb-true file table.file e) none) apart.files is
@@ -120,13 +121,13 @@ put_all_filter test (table ∷ outputs) tables fail = put_all_filter test output
 
 -- a level after the installation: with the outputs, or without inputs
 pub installed_at : (P : List FileEntries → Type 0) (family : FamilyView) (job : Job) (outputs : List FileEntries) (n : ℕ) → job.level < length family.levels
-    → (n ≡ job.level → P (put_all outputs (staying job (level_at family job.level)))) → ((n ≡ job.level → ⊥) → P (staying job (level_at family n))) → P (level_at (with_compacted job outputs family) n)
+    → (n ≡ job.level → P (put_all outputs (staying job.files (level_at family job.level)))) → ((n ≡ job.level → ⊥) → P (staying job.files (level_at family n))) → P (level_at (with_compacted job outputs family) n)
 installed_at P family job outputs n lt here there =
-    at_set P (map (staying job) family.levels) job.level n (put_all outputs (staying job (level_at family job.level)))
-    (subst (λ (k : ℕ). job.level < k) (sym (length-map family.levels (staying job))) lt)
-    here (λ differ. at_map P (staying job) family.levels n refl (there differ))
+    at_set P (map (staying job.files) family.levels) job.level n (put_all outputs (staying job.files (level_at family job.level)))
+    (subst (λ (k : ℕ). job.level < k) (sym (length-map family.levels (staying job.files))) lt)
+    here (λ differ. at_map P (staying job.files) family.levels n refl (there differ))
 
-pub staying_each : (P : FileEntries → Type 0) (job : Job) (tables : List FileEntries) → Each (λ table. is_input job table ≡ false → P table) tables → Each P (staying job tables)
+pub staying_each : (P : FileEntries → Type 0) (job : Job) (tables : List FileEntries) → Each (λ table. is_input job table ≡ false → P table) tables → Each P (staying job.files tables)
 staying_each P job tables each = each_passing P (λ table. not (is_input job table)) tables
     (each_as (λ table. is_input job table ≡ false → P table) (λ table. not (is_input job table) ≡ true → P table) (λ table holds is. holds (not-true (is_input job table) is)) tables each)
 
@@ -134,23 +135,23 @@ pub installed_each : (P : FileEntries → Type 0) (family : FamilyView) (job : J
     → Each (λ table. is_input job table ≡ false → P table) (level_at family n) → (n ≡ job.level → Each P outputs) → Each P (level_at (with_compacted job outputs family) n)
 installed_each P family job outputs n lt old new =
     installed_at (Each P) family job outputs n lt
-    (λ e. put_all_each P outputs (staying job (level_at family job.level)) (new e) (staying_each P job (level_at family job.level) (subst (λ (k : ℕ). Each (λ table. is_input job table ≡ false → P table) (level_at family k)) e old)))
+    (λ e. put_all_each P outputs (staying job.files (level_at family job.level)) (new e) (staying_each P job (level_at family job.level) (subst (λ (k : ℕ). Each (λ table. is_input job table ≡ false → P table) (level_at family k)) e old)))
     (λ differ. staying_each P job (level_at family n) old)
 
 pub installed_length : (family : FamilyView) (job : Job) (outputs : List FileEntries) → length (with_compacted job outputs family).levels ≡ length family.levels
 installed_length family job outputs =
-    length-set (map (staying job) family.levels) job.level (put_all outputs (staying job (level_at family job.level))) ∙ length-map family.levels (staying job)
+    length-set (map (staying job.files) family.levels) job.level (put_all outputs (staying job.files (level_at family job.level))) ∙ length-map family.levels (staying job.files)
 
 -- the other job's inputs stand as they stood
-pub installed_inputs : (lowest : ℕ) (family : FamilyView) (job other : Job) (outputs : List FileEntries) → job.level < length family.levels → AreApart lowest job other
+pub installed_inputs : (lowest : ℕ) (family : FamilyView) (job other : Job) (outputs : List FileEntries) → job.level < length family.levels → JobsApart lowest job other
     → Each (λ table. is_input other table ≡ false) outputs → input_tables (with_compacted job outputs family) other ≡ input_tables family other
 installed_inputs lowest family job other outputs lt apart fresh =
     filter_flat (is_input other) (with_compacted job outputs family).levels family.levels (installed_length family job outputs)
     (λ n. installed_at (λ tables. filter (is_input other) tables ≡ filter (is_input other) (level_at family n)) family job outputs n lt
-    (λ e. put_all_filter (is_input other) outputs (staying job (level_at family job.level)) fresh ∙ stays job.level ∙ ap (λ (k : ℕ). filter (is_input other) (level_at family k)) (sym e))
+    (λ e. put_all_filter (is_input other) outputs (staying job.files (level_at family job.level)) fresh ∙ stays job.level ∙ ap (λ (k : ℕ). filter (is_input other) (level_at family k)) (sym e))
     (λ differ. stays n))
   where
-    stays : (n : ℕ) → filter (is_input other) (staying job (level_at family n)) ≡ filter (is_input other) (level_at family n)
+    stays : (n : ℕ) → filter (is_input other) (staying job.files (level_at family n)) ≡ filter (is_input other) (level_at family n)
     stays n = filter_twice (is_input other) (λ table. not (is_input job table)) (level_at family n)
         (each_all (λ table. is_input other table ≡ true → not (is_input job table) ≡ true) (λ table is. elim (cases_Bool (is_input job table)) [
           | inl yes_so ↦ absurd (let w : true ≡ false = sym is ∙ disjoint lowest job other table apart yes_so in cc)

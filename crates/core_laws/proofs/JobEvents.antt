@@ -14,10 +14,11 @@ use Rattle.st_base.specs.Range.{has_key}
 use Rattle.st_model.specs.Refusals.{behind_refusals}
 use Rattle.st_model.specs.State.{new_family}
 use Rattle.base_laws.proofs.Lists.{each_as, each_filter, each_map, filter_whole, map_each}
-use Rattle.core_model.specs.Column.{Pairwise}
 use Rattle.core_model.specs.Commit.{outline}
 use Rattle.core_model.specs.Compaction.{with_flushed, with_compacted}
-use Rattle.core_model.specs.Event.{Event, CoreReply, FlushPicked, FlushInstalled, CompactPicked, CompactInstalled, JobGivenUp, Done, FamilyGone, NotNow, request_of_parts}
+use Rattle.core_model.specs.Event.{Event, FlushPicked, FlushInstalled, CompactPicked, CompactInstalled, JobGivenUp, request_of_parts}
+use Rattle.core_model.specs.declared.reply.CoreReply.{CoreReply}
+use Rattle.core_model.specs.declared.reply.CoreReply.TheVariants.{Done, FamilyGone, NotNow}
 use Rattle.core_model.specs.Relation.{Represents}
 use Rattle.core_laws.specs.SoundCore.{IsSoundCore, RepresentsSound, HasColumns, EventRefines, FlushPickedRefines, CompactPickedRefines, FlushInstalledRefines, CompactInstalledRefines}
 use Rattle.core_model.specs.Pick.{job_count}
@@ -33,6 +34,7 @@ use Rattle.core_laws.proofs.AfterInstall.{fewer_run, some_both, turn_next, taken
 use Rattle.core_laws.proofs.CompactedOwn.{compact_installed_own, compacted_hits}
 use Rattle.core_laws.proofs.FlushedOwn.{flush_installed_own, flushed_hits, each_without_last}
 use Rattle.core_laws.proofs.PickedOwn.{flush_picked_own, compact_picked_own, noted_some}
+use Rattle.st_order.specs.Columns.{Pairwise}
 
 -- ---- of `Represents`
 
@@ -129,6 +131,7 @@ fewer_own core test own = record {
     made = λ more. each_filter (λ (job : Job). job.number ≤ core.jobs_made) test core.jobs (own.noted.made more);
     families = each_filter (λ (job : Job). job.family < core.next_family) test core.jobs own.noted.families;
     outputs = each_filter HasOutputs test core.jobs own.noted.outputs;
+    live = own.noted.live;
   };
 }
   where

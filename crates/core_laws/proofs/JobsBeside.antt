@@ -8,14 +8,14 @@ use Rattle.st_base.specs.Range.{is_in_range, meet, has_key}
 use Rattle.base_laws.proofs.Lists.{each_all, each_as, each_both}
 use Rattle.base_laws.proofs.Ranges.{meet_swaps, range_has_keys}
 use Rattle.core_laws.specs.Claims.{Compacts, AreOutputsOf, InstalledLeavesRunning}
-use Rattle.core_model.specs.Column.{Pairwise}
 use Rattle.core_model.specs.Compaction.{staying, with_compacted}
 use Rattle.core_model.specs.Picture.{FileEntries, FamilyView, Job, tables_in, level_at, table_range, is_input}
-use Rattle.core_model.specs.RelationParts.{IsCompacting, IsInputLevel, AreApart, ShareNoKey, HasEntry, IsSortedRun}
+use Rattle.core_model.specs.RelationParts.{IsCompacting, IsInputLevel, JobsApart, ShareNoKey, HasEntry, IsSortedRun}
 use Rattle.core_laws.proofs.Lists.{pairs_filter, pairs_within, pairs_between, pairs_flat, at, at_take, at_taken, flat_at}
 use Rattle.core_laws.proofs.JointRange.{Has, apart_at, meet_less, front_holds, end_holds}
 use Rattle.core_laws.proofs.InstalledLevels.{outputs_each, tables_rows, inputs_has, has_within, disjoint, put_all_pairs, installed_at, installed_each, installed_inputs}
 use Rattle.core_laws.proofs.Middle.{level_lt}
+use Rattle.st_order.specs.Columns.{Pairwise}
 
 -- a table's entries lie in its range
 pub table_has : (table : FileEntries) → IsSortedRun table.entries → Has (table_range table) table.entries
@@ -41,7 +41,7 @@ share_none one other here there apart has_here has_there key is_there = elim (ca
   | inr none ↦ none
 ]
 
-module _ (lowest : ℕ) (family : FamilyView) (job other : Job) (outputs : List FileEntries) (c : Compacts lowest family job) (d : Compacts lowest family other) (one : AreApart lowest job other) (two : AreApart lowest other job)
+module _ (lowest : ℕ) (family : FamilyView) (job other : Job) (outputs : List FileEntries) (c : Compacts lowest family job) (d : Compacts lowest family other) (one : JobsApart lowest job other) (two : JobsApart lowest other job)
     (outs : AreOutputsOf job outputs) (fresh : Each (λ table. is_input other table ≡ false) outputs) where
   abbrev after : FamilyView
   after = with_compacted job outputs family
@@ -75,17 +75,17 @@ module _ (lowest : ℕ) (family : FamilyView) (job other : Job) (outputs : List 
   before_within : (n : ℕ) → n < other.level → Pairwise Before (level_at after n)
   before_within n less =
       installed_at (Pairwise Before) family job outputs n lt
-      (λ e. put_all_pairs Before outputs (staying job (level_at family job.level))
+      (λ e. put_all_pairs Before outputs (staying job.files (level_at family job.level))
       (each_as (λ y. is_input other y ≡ false) (λ y. (z : FileEntries) → Before y z) (λ y fails z is. absurd (let w : true ≡ false = sym is ∙ fails in cc)) outputs fresh)
       (each_filter_here job.level (sources_apart job.level (omega arith) (omega arith)))
       (old job.level (omega arith)))
       (λ differ. old n less)
     where
-      old : (n : ℕ) → n < other.level → Pairwise Before (staying job (level_at family n))
+      old : (n : ℕ) → n < other.level → Pairwise Before (staying job.files (level_at family n))
       old n less = pairs_filter Before (λ table. not (is_input job table)) (level_at family n)
           (at_taken (Pairwise Before) family.levels other.level n less (pairs_within Before (take other.level family.levels) d.running.below n))
 
-      each_filter_here : (n : ℕ) → Each (λ x. Each (Before x) outputs) (level_at family n) → Each (λ x. Each (Before x) outputs) (staying job (level_at family n))
+      each_filter_here : (n : ℕ) → Each (λ x. Each (Before x) outputs) (level_at family n) → Each (λ x. Each (Before x) outputs) (staying job.files (level_at family n))
       each_filter_here n each = Rattle.base_laws.proofs.Lists.each_filter (λ x. Each (Before x) outputs) (λ table. not (is_input job table)) (level_at family n) each
 
   before_between : (n m : ℕ) → n < m → m < other.level → Each (λ x. Each (Before x) (level_at after m)) (level_at after n)

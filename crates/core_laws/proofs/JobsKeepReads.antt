@@ -12,15 +12,15 @@ use Rattle.base_laws.proofs.Keys.{at_most_trans, below_at_most, below_at_most_be
 use Rattle.base_laws.proofs.Lists.{each_all, each_as, each_both, each_filter, each_map, map_each}
 use Rattle.base_laws.proofs.Ranges.{meet_swaps}
 use Rattle.core_laws.specs.Claims.{Compacts, AreOutputsOf, InstalledLeavesReads, InstalledLevelsApart, FlushLeavesRunning}
-use Rattle.core_model.specs.Column.{Pairwise}
 use Rattle.core_model.specs.Compaction.{staying, put_all, with_compacted, with_flushed}
 use Rattle.core_model.specs.Picture.{FileEntries, FamilyView, Job, Core, lowest_level, runs_of, tables_in, level_at, table_range, is_input, put_by_key}
-use Rattle.core_model.specs.RelationParts.{IsLevel, LevelsApart, IsCompacting, IsInputLevel, AreApart, ShareNoKey, HasEntry, input_tables, IsSortedRun}
+use Rattle.core_model.specs.RelationParts.{IsLevel, LevelsApart, IsCompacting, IsInputLevel, JobsApart, ShareNoKey, HasEntry, input_tables, IsSortedRun}
 use Rattle.core_laws.proofs.Lists.{pairs_filter, pairs_within, pairs_between, pairs_flat, at, at_set, at_take, at_taken, at_drop, at_dropped, each_at, at_each, flat_at, at_flat, filter_flat}
 use Rattle.core_laws.proofs.JointRange.{apart_at, front_le_end}
 use Rattle.core_laws.proofs.InstalledLevels.{outputs_each, tables_rows, input_each, disjoint, installed_at, installed_each, put_each}
 use Rattle.core_laws.proofs.JobsBeside.{table_has, outputs_clear}
 use Rattle.core_laws.proofs.Middle.{level_lt, parts_in_order}
+use Rattle.st_order.specs.Columns.{Pairwise}
 
 -- ---- keeping reads
 
@@ -33,7 +33,7 @@ within_more big small key ends here =
     and_from (at_most big.first key) (at_most key big.last) (at_most_trans big.first small.first key p.0 h.0) (at_most_trans key small.last big.last h.1 q.1)
 
 module _ (core : Core) (family : FamilyView) (job other : Job) (outputs : List FileEntries) (c : Compacts (lowest_level core) family job) (d : Compacts (lowest_level core) family other)
-    (one : AreApart (lowest_level core) job other) (two : AreApart (lowest_level core) other job) (outs : AreOutputsOf job outputs) where
+    (one : JobsApart (lowest_level core) job other) (two : JobsApart (lowest_level core) other job) (outs : AreOutputsOf job outputs) where
   abbrev Free : KeyRange → List Entry → Type 0
   Free range entries = Each (λ (e : Entry). is_in_range range e.key ≡ false) entries
 
@@ -154,11 +154,11 @@ installed_levels_apart lowest_level family job outputs c outs =
     at_each IsLevel (drop 1 (with_compacted job outputs family).levels) (λ n. at_drop IsLevel (with_compacted job outputs family).levels 1 n tt
     (λ m le. installed_at IsLevel family job outputs m (level_lt lowest_level family job c) (λ e. here) (λ differ. stays m le)))
   where
-    stays : (m : ℕ) → 1 ≤ m → IsLevel (staying job (level_at family m))
+    stays : (m : ℕ) → 1 ≤ m → IsLevel (staying job.files (level_at family m))
     stays m le = pairs_filter Above (λ table. not (is_input job table)) (level_at family m) (level_old family c.apart m le)
 
     left : List FileEntries
-    left = staying job (level_at family job.level)
+    left = staying job.files (level_at family job.level)
 
     old_propers : Each Proper left
     old_propers = each_filter Proper (λ table. not (is_input job table)) (level_at family job.level)

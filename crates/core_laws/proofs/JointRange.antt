@@ -10,7 +10,8 @@ use Rattle.st_base.specs.Range.{is_in_range, meet, range_of, key_at_front, key_a
 use Rattle.base_laws.proofs.Keys.{at_most_itself, at_most_trans, below_at_most, comes_before_key, not_below}
 use Rattle.base_laws.proofs.Lists.{each_as}
 use Rattle.base_laws.proofs.Ranges.{both_within_meet, range_has_keys}
-use Rattle.core_model.specs.Pick.{join_range, joint_range}
+use Rattle.core_model.specs.Pick.{joint_range}
+use Rattle.job_model.specs.Pick.{join_range}
 
 -- ---- ranges
 

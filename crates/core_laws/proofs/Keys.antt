@@ -8,7 +8,8 @@ use Rattle.st_base.specs.declared.entry.KeyRange.{KeyRange}
 use Rattle.st_base.specs.Range.{is_in_range, range_of}
 use Rattle.base_laws.proofs.Keys.{at_most_itself, at_most_trans, below_at_most, not_below}
 use Rattle.base_laws.proofs.Ranges.{within_from, within_parts}
-use Rattle.core_model.specs.Pick.{join_range, joint_range}
+use Rattle.core_model.specs.Pick.{joint_range}
+use Rattle.job_model.specs.Pick.{join_range}
 
 -- ---- two tests
 

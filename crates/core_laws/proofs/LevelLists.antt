@@ -3,8 +3,8 @@ use Rattle.std.proofs.Common.{◌≡◌, ℕ, zero, suc, ◌<◌, ◌≤◌, Boo
 use Rattle.std.specs.Prelude.{map, filter, flat_map, slice_get, unwrap_or, set}
 use Rattle.std.specs.List.{AllByRecursion as Each}
 use Rattle.base_laws.proofs.Lists.{each_back, each_front, each_join}
-use Rattle.core_model.specs.Column.{Pairwise}
 use Rattle.core_laws.proofs.Lists.{filter_join}
+use Rattle.st_order.specs.Columns.{Pairwise}
 
 pub map_append : {X Y : Type 0} (f : X → Y) (xs ys : List X) → map f (xs ++ ys) ≡ map f xs ++ map f ys
 map_append f [] ys = refl

@@ -6,7 +6,6 @@ pub mod Keys
 pub mod SortedRuns
 pub mod LevelLists
 mod Middle
-mod DropRuns
 mod TableParts
 mod PickCases
 mod PickedJobs
@@ -45,7 +44,6 @@ pub mod CrashEvent
 mod FamilyEvents
 mod TurnEvents
 pub mod Steps
-mod RangeKeys
 mod LevelRule
 mod FileColumns
 mod FileJobs

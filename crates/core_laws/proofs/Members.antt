@@ -4,9 +4,9 @@ use Rattle.std.specs.Prelude.{◌==◌, get_or}
 use Rattle.std.specs.List.{filter, find, AllPairs, AllByRecursion as Each}
 use Rattle.std.proofs.lemmas.Bool.{cases_Bool, eqb-true, eq-eqb, ne_eqb}
 use Rattle.base_laws.proofs.Lists.{each_as}
-use Rattle.core_model.specs.Column.{Pairwise}
 use Rattle.core_model.specs.Picture.{FileEntries}
 use Rattle.core_laws.proofs.Lists.{at, flat}
+use Rattle.st_order.specs.Columns.{Pairwise}
 
 module _ {X : Type 0} where
   abbrev pub In : X → List X → Type 0

@@ -12,9 +12,7 @@ use Rattle.st_base.specs.Range.{is_in_range, meet, range_of, has_key}
 use Rattle.base_laws.proofs.Lists.{append_none, each_all, each_as, each_back, each_map, each_passing, filter_none, filter_whole, map_each}
 use Rattle.base_laws.proofs.Ranges.{both_within_meet, has_key_within, range_has_keys}
 use Rattle.core_laws.specs.Claims.{JointHasKeys, Compacts, AreOutputsOf, InputsAreMiddle, OutputsAreMiddle, DropsHaveNothingBelow, FlushIsMiddle, upper_runs, lower_runs}
-use Rattle.core_model.specs.Column.{Pairwise, of_key, column, compacted, kept}
 use Rattle.core_model.specs.Compaction.{without_last, with_flushed, with_compacted, staying, put_all}
-use Rattle.core_model.specs.Drops.{covers}
 use Rattle.core_model.specs.Pick.{joint_range}
 use Rattle.core_model.specs.Picture.{FileEntries, FamilyView, Job, lowest_level, level_at, runs_of, tables_in, memories, walk, table_range, is_input, put_by_key}
 use Rattle.core_model.specs.RelationParts.{IsView, IsInputLevel, ShareNoKey, input_tables, IsSortedRun}
@@ -24,6 +22,9 @@ use Rattle.core_laws.proofs.LevelLists.{set_split, filter_levels, pairs_with, ma
 use Rattle.core_laws.proofs.Lists.{filter_join}
 use Rattle.core_laws.proofs.ByPlace.{each_both, flat_join}
 use Rattle.core_laws.proofs.JointRange.{order_back, order_front}
+use Rattle.st_order.specs.Columns.{Pairwise, of_key, column}
+use Rattle.job_model.specs.Column.{compacted, kept}
+use Rattle.job_model.specs.Drops.{covers}
 
 -- ---- columns of tables
 
@@ -183,9 +184,9 @@ inputs_split lowest_level family job key compacts =
 
 -- where the inputs have the key, no other table of the output level has it
 pub none_beside : (lowest_level : ℕ) (family : FamilyView) (job : Job) (key : List ℕ) → Compacts lowest_level family job → 1 ≤ length (column key job.inputs)
-    → in_tables key (staying job (level_at family job.level)) ≡ []
+    → in_tables key (staying job.files (level_at family job.level)) ≡ []
 none_beside lowest_level family job key compacts some =
-    in_none key (staying job (level_at family job.level)) (each_passing (λ table. Lacks key table.entries) (λ table. not (is_input job table)) (level_at family job.level)
+    in_none key (staying job.files (level_at family job.level)) (each_passing (λ table. Lacks key table.entries) (λ table. not (is_input job table)) (level_at family job.level)
     (each_as Both (λ table. not (is_input job table) ≡ true → Lacks key table.entries) lacking (level_at family job.level)
     (each_both (λ table. in_order table.entries ≡ true) (λ table. IsFalse (is_input job table) → IsFalse (meet job.range (table_range table))) (level_at family job.level)
     (each_level (λ table. in_order table.entries ≡ true) family.levels job.level (tables_ordered family compacts.view)) compacts.running.clear)))
@@ -209,28 +210,28 @@ none_beside lowest_level family job key compacts some =
 
 -- at the output level the inputs may be taken as the first
 pub level_splits : (lowest_level : ℕ) (family : FamilyView) (job : Job) (key : List ℕ) → Compacts lowest_level family job
-    → in_tables key (level_at family job.level) ≡ in_tables key (filter (is_input job) (level_at family job.level)) ++ in_tables key (staying job (level_at family job.level))
+    → in_tables key (level_at family job.level) ≡ in_tables key (filter (is_input job) (level_at family job.level)) ++ in_tables key (staying job.files (level_at family job.level))
 level_splits lowest_level family job key compacts = split (column key job.inputs) refl
   where
     B : List FileEntries
     B = level_at family job.level
 
-    split : (found : List Entry) → column key job.inputs ≡ found → in_tables key B ≡ in_tables key (filter (is_input job) B) ++ in_tables key (staying job B)
+    split : (found : List Entry) → column key job.inputs ≡ found → in_tables key B ≡ in_tables key (filter (is_input job) B) ++ in_tables key (staying job.files B)
     split [] none =
         let p = append_none (in_tables key (filter (is_input job) (tables_above family job))) (in_tables key (filter (is_input job) B)) (sym (inputs_split lowest_level family job key compacts) ∙ none) in
-        others_have (is_input job) key B p.1 ∙ sym (ap (λ front. front ++ in_tables key (staying job B)) p.1)
+        others_have (is_input job) key B p.1 ∙ sym (ap (λ front. front ++ in_tables key (staying job.files B)) p.1)
     split (entry ∷ entries) some =
-        let none : in_tables key (staying job B) ≡ [] = none_beside lowest_level family job key compacts (omega (arith, ap length some)) in
+        let none : in_tables key (staying job.files B) ≡ [] = none_beside lowest_level family job key compacts (omega (arith, ap length some)) in
         those_have (is_input job) key B none ∙ sym (append-nil (in_tables key (filter (is_input job) B))) ∙ sym (ap (λ rest. in_tables key (filter (is_input job) B) ++ rest) none)
 
 pub regroup : (M sA iA iB sB C : List Entry) → M ++ ((sA ++ iA) ++ ((iB ++ sB) ++ C)) ≡ (M ++ sA) ++ ((iA ++ iB) ++ (sB ++ C))
 regroup M sA iA iB sB C = simp append_assoc
 
-pub upper_column : (family : FamilyView) (job : Job) (key : List ℕ) → column key (upper_runs family job) ≡ column key (memories family) ++ in_tables key (staying job (tables_above family job))
-upper_column family job key = column_append key (memories family) (runs_of (staying job (tables_above family job)))
+pub upper_column : (family : FamilyView) (job : Job) (key : List ℕ) → column key (upper_runs family job) ≡ column key (memories family) ++ in_tables key (staying job.files (tables_above family job))
+upper_column family job key = column_append key (memories family) (runs_of (staying job.files (tables_above family job)))
 
-pub lower_column : (family : FamilyView) (job : Job) (key : List ℕ) → column key (lower_runs family job) ≡ in_tables key (staying job (level_at family job.level)) ++ in_tables key (tables_below family job)
-lower_column family job key = column_append key (runs_of (staying job (level_at family job.level))) (runs_of (tables_below family job))
+pub lower_column : (family : FamilyView) (job : Job) (key : List ℕ) → column key (lower_runs family job) ≡ in_tables key (staying job.files (level_at family job.level)) ++ in_tables key (tables_below family job)
+lower_column family job key = column_append key (runs_of (staying job.files (level_at family job.level))) (runs_of (tables_below family job))
 
 pub inputs_are_middle : InputsAreMiddle
 inputs_are_middle lowest_level family job key compacts =
@@ -243,10 +244,10 @@ inputs_are_middle lowest_level family job key compacts =
     ∙ ap (λ tables. M ++ in_tables key tables) (tables_split family job.level (level_lt lowest_level family job compacts))
     ∙ ap (λ rest. M ++ rest) (in_append key A (B ++ C) ∙ ap (λ rest. in_tables key A ++ rest) (in_append key B C))
     ∙ ap (λ rest. M ++ (rest ++ (in_tables key B ++ in_tables key C))) (others_first p key A compacts.running.below)
-    ∙ ap (λ rest. M ++ ((in_tables key (staying job A) ++ in_tables key (filter p A)) ++ (rest ++ in_tables key C))) (level_splits lowest_level family job key compacts)
-    ∙ regroup M (in_tables key (staying job A)) (in_tables key (filter p A)) (in_tables key (filter p B)) (in_tables key (staying job B)) (in_tables key C)
-    ∙ sym (ap (λ rest. (M ++ in_tables key (staying job A)) ++ (rest ++ (in_tables key (staying job B) ++ in_tables key C))) (inputs_split lowest_level family job key compacts))
-    ∙ sym (ap (λ rest. rest ++ (column key job.inputs ++ (in_tables key (staying job B) ++ in_tables key C))) (upper_column family job key))
+    ∙ ap (λ rest. M ++ ((in_tables key (staying job.files A) ++ in_tables key (filter p A)) ++ (rest ++ in_tables key C))) (level_splits lowest_level family job key compacts)
+    ∙ regroup M (in_tables key (staying job.files A)) (in_tables key (filter p A)) (in_tables key (filter p B)) (in_tables key (staying job.files B)) (in_tables key C)
+    ∙ sym (ap (λ rest. (M ++ in_tables key (staying job.files A)) ++ (rest ++ (in_tables key (staying job.files B) ++ in_tables key C))) (inputs_split lowest_level family job key compacts))
+    ∙ sym (ap (λ rest. rest ++ (column key job.inputs ++ (in_tables key (staying job.files B) ++ in_tables key C))) (upper_column family job key))
     ∙ sym (ap (λ rest. column key (upper_runs family job) ++ (column key job.inputs ++ rest)) (lower_column family job key))
 
 -- ---- its outputs
@@ -343,15 +344,15 @@ apart_lack key one other here there apart = elim (cases_Bool (has_key one.entrie
 
 -- the tables once the outputs are installed
 pub tables_after : (lowest_level : ℕ) (family : FamilyView) (job : Job) (outputs : List FileEntries) → Compacts lowest_level family job
-    → tables_in (with_compacted job outputs family).levels ≡ staying job (tables_above family job) ++ (put_all outputs (staying job (level_at family job.level)) ++ tables_below family job)
+    → tables_in (with_compacted job outputs family).levels ≡ staying job.files (tables_above family job) ++ (put_all outputs (staying job.files (level_at family job.level)) ++ tables_below family job)
 tables_after lowest_level family job outputs compacts =
-    let placed : List FileEntries = put_all outputs (staying job (level_at family job.level)) in
+    let placed : List FileEntries = put_all outputs (staying job.files (level_at family job.level)) in
     let stays : FileEntries → Bool = λ (table : FileEntries). not (is_input job table) in
-    set_split (staying job) family.levels job.level placed (level_lt lowest_level family job compacts)
-    ∙ ap (λ front. front ++ (placed ++ tables_in (map (staying job) (drop (suc job.level) family.levels)))) (filter_levels stays (take job.level family.levels))
-    ∙ ap (λ rest. staying job (tables_above family job) ++ (placed ++ rest))
+    set_split (staying job.files) family.levels job.level placed (level_lt lowest_level family job compacts)
+    ∙ ap (λ front. front ++ (placed ++ tables_in (map (staying job.files) (drop (suc job.level) family.levels)))) (filter_levels stays (take job.level family.levels))
+    ∙ ap (λ rest. staying job.files (tables_above family job) ++ (placed ++ rest))
     (filter_levels stays (drop (suc job.level) family.levels)
-    ∙ ap (λ n. staying job (tables_in (drop n family.levels))) (sym (add-one job.level))
+    ∙ ap (λ n. staying job.files (tables_in (drop n family.levels))) (sym (add-one job.level))
     ∙ filter_whole stays (tables_below family job) (each_as (λ table. is_input job table ≡ false) (λ table. stays table ≡ true) (λ table e. ap not e) (tables_below family job) (none_below lowest_level family job compacts)))
 
 -- the outputs have what is left of the key's column
@@ -369,20 +370,20 @@ compacted_none live false = refl
 
 -- among the tables of their level
 pub placed_column : (lowest_level : ℕ) (family : FamilyView) (job : Job) (outputs : List FileEntries) (key : List ℕ) → Compacts lowest_level family job → AreOutputsOf job outputs
-    → in_tables key (put_all outputs (staying job (level_at family job.level))) ≡ in_tables key outputs ++ in_tables key (staying job (level_at family job.level))
+    → in_tables key (put_all outputs (staying job.files (level_at family job.level))) ≡ in_tables key outputs ++ in_tables key (staying job.files (level_at family job.level))
 placed_column lowest_level family job outputs key compacts are =
-    put_all_column key outputs (staying job (level_at family job.level)) (outputs_lack job outputs key are) (split (column key job.inputs) refl)
+    put_all_column key outputs (staying job.files (level_at family job.level)) (outputs_lack job outputs key are) (split (column key job.inputs) refl)
   where
-    each_lacks : (tables : List FileEntries) → in_tables key tables ≡ [] → Each (λ table. (Lacks key table.entries) ⊎ (in_tables key (staying job (level_at family job.level)) ≡ [])) tables
+    each_lacks : (tables : List FileEntries) → in_tables key tables ≡ [] → Each (λ table. (Lacks key table.entries) ⊎ (in_tables key (staying job.files (level_at family job.level)) ≡ [])) tables
     each_lacks [] none = tt
     each_lacks (table ∷ tables) none =
         let p = append_none (of_key key table.entries) (in_tables key tables) none in
         (inl p.0, each_lacks tables p.1)
 
-    split : (found : List Entry) → column key job.inputs ≡ found → Each (λ table. (Lacks key table.entries) ⊎ (in_tables key (staying job (level_at family job.level)) ≡ [])) outputs
+    split : (found : List Entry) → column key job.inputs ≡ found → Each (λ table. (Lacks key table.entries) ⊎ (in_tables key (staying job.files (level_at family job.level)) ≡ [])) outputs
     split [] none = each_lacks outputs (outputs_column job outputs key are ∙ ap (compacted job.live (covers job.drops key)) none ∙ compacted_none job.live (covers job.drops key))
     split (entry ∷ entries) some =
-        each_all (λ table. (Lacks key table.entries) ⊎ (in_tables key (staying job (level_at family job.level)) ≡ []))
+        each_all (λ table. (Lacks key table.entries) ⊎ (in_tables key (staying job.files (level_at family job.level)) ≡ []))
         (λ table. inr (none_beside lowest_level family job key compacts (omega (arith, ap length some)))) outputs
 
 pub regroup_outputs : (M sA O sB C : List Entry) → M ++ (sA ++ ((O ++ sB) ++ C)) ≡ (M ++ sA) ++ (O ++ (sB ++ C))
@@ -390,8 +391,8 @@ regroup_outputs M sA O sB C = simp append_assoc
 
 pub outputs_are_middle : OutputsAreMiddle
 outputs_are_middle lowest_level family job outputs key compacts are =
-    let sA : List FileEntries = staying job (tables_above family job) in
-    let sB : List FileEntries = staying job (level_at family job.level) in
+    let sA : List FileEntries = staying job.files (tables_above family job) in
+    let sB : List FileEntries = staying job.files (level_at family job.level) in
     let C : List FileEntries = tables_below family job in
     let M : List Entry = column key (memories family) in
     column_append key (memories family) (runs_of (tables_in (with_compacted job outputs family).levels))

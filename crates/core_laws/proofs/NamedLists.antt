@@ -4,7 +4,7 @@ use Rattle.std.specs.List.{AllByRecursion as Each, AllZip}
 use Rattle.st_base.specs.Bytes.{bytes_cmp, same}
 use Rattle.st_base.specs.Map.{value_at, changed_at}
 use Rattle.base_laws.proofs.Keys.{at_itself, at_key}
-use Rattle.core_model.specs.Column.{Pairwise}
+use Rattle.st_order.specs.Columns.{Pairwise}
 
 -- ---- a list and its look-ups
 

@@ -42,7 +42,7 @@ new_stands behind capacity = record {
   turn = tt;
   views = (record { levels = refl; rows = (record { ordered = refl; within = tt }, tt); filled = tt; sealed = tt; order = (tt, tt) }, tt);
   files = tt;
-  noted = record { numbers = tt; made = λ more. tt; families = tt; outputs = tt };
+  noted = record { numbers = tt; made = λ more. tt; families = tt; outputs = tt; live = tt };
   sound = record {
     names = λ i j d lt in'. absurd (omega arith);
     bases = ((λ i j d lt in'. absurd (omega arith)), tt);

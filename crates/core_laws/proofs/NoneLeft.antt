@@ -12,9 +12,9 @@ use Rattle.st_model.specs.Refusals.{repeated}
 use Rattle.st_model.specs.Request.{Argument, meeting_after}
 use Rattle.base_laws.proofs.Lists.{append_none, none_any}
 use Rattle.base_laws.proofs.Ranges.{meet_swaps}
-use Rattle.core_model.specs.Column.{Pairwise}
 use Rattle.core_laws.proofs.FileColumns.{each_append}
 use Rattle.core_laws.proofs.FileJobs.{each_with}
+use Rattle.st_order.specs.Columns.{Pairwise}
 
 pub map_none : {X Y : Type 0} (f : X → Y) (xs : List X) → map f xs ≡ [] → xs ≡ []
 map_none f [] e = refl
@@ -82,10 +82,10 @@ position_none {X = X} p xs e = all xs (not_less (nat_lt (position_or_len p xs) (
 
 -- ---- ranges of which none meets one before it
 
-abbrev AreApart : KeyRange → KeyRange → Type 0
-AreApart one other = meet one other ≡ false
+abbrev JobsApart : KeyRange → KeyRange → Type 0
+JobsApart one other = meet one other ≡ false
 
-pub none_meeting : (earlier ranges : List KeyRange) → meeting_after earlier ranges ≡ None → Each (λ one. Each (AreApart one) ranges) earlier × Pairwise AreApart ranges
+pub none_meeting : (earlier ranges : List KeyRange) → meeting_after earlier ranges ≡ None → Each (λ one. Each (JobsApart one) ranges) earlier × Pairwise JobsApart ranges
 none_meeting earlier [] e = (all earlier, tt)
   where
     all : (some : List KeyRange) → Each (λ one. Unit {0}) some
@@ -95,8 +95,8 @@ none_meeting earlier (range ∷ ranges) e =
     let parts = or_none (option_map (λ i. (i + 1, length earlier + 1)) (position (meet range) earlier)) (meeting_after (earlier ++ range ∷ []) ranges) e in
     let before = position_none (meet range) earlier (map_option_none (λ i. (i + 1, length earlier + 1)) (position (meet range) earlier) parts.0) in
     let rest = none_meeting (earlier ++ range ∷ []) ranges parts.1 in
-    let split = each_append (λ one. Each (AreApart one) ranges) earlier (range ∷ []) rest.0 in (
-      each_with (λ one. meet range one ≡ false) (λ one. Each (AreApart one) ranges) (λ one. Each (AreApart one) (range ∷ ranges)) earlier (λ one here more. (meet_swaps one range ∙ here, more)) before split.0,
+    let split = each_append (λ one. Each (JobsApart one) ranges) earlier (range ∷ []) rest.0 in (
+      each_with (λ one. meet range one ≡ false) (λ one. Each (JobsApart one) ranges) (λ one. Each (JobsApart one) (range ∷ ranges)) earlier (λ one here more. (meet_swaps one range ∙ here, more)) before split.0,
       (split.1.0, rest.1),
     )
 

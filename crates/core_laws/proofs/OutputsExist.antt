@@ -14,14 +14,10 @@ use Rattle.st_base.proofs.Same.{same_is_eq, same_true, same_self}
 use Rattle.st_base.specs.Range.{keys_of}
 use Rattle.base_laws.proofs.Keys.{below_trans}
 use Rattle.base_laws.proofs.Lists.{any_none, each_all, each_as, each_back, each_flat_map, each_front, each_passing, filter_none, filter_whole}
-use Rattle.core_laws.specs.Claims.{CompactionExists, Compacts}
-use Rattle.core_model.specs.Column.{Pairwise, of_key, column, kept, compacted, FallStrictly}
-use Rattle.core_model.specs.Compaction.{IsJoined}
-use Rattle.core_model.specs.Drops.{put_key, rising_keys, covers}
+use Rattle.core_laws.specs.Claims.{CompactionExists, Compacts, upper_runs, lower_runs}
 use Rattle.core_model.specs.Pick.{PickedTables, picked, compaction_of}
 use Rattle.core_model.specs.Picture.{FileEntries, FamilyView, Job, Core, lowest_level, walk, above, memories, runs_of, tables_in, level_at}
 use Rattle.core_model.specs.RelationParts.{FallOrZero, NumbersFall, IsView, LevelsApart}
-use Rattle.core_laws.specs.Claims.{upper_runs, lower_runs}
 use Rattle.core_laws.proofs.Columns.{compacted_each}
 use Rattle.core_laws.proofs.Middle.{column_append, in_append, inputs_are_middle, tables_split, compacted_none}
 use Rattle.core_laws.proofs.TableParts.{Differ}
@@ -31,6 +27,13 @@ use Rattle.core_laws.proofs.Falls.{Weakly, LowerOrZero, compacted_falls}
 use Rattle.core_laws.proofs.Members.{pairs_of_all}
 use Rattle.core_laws.proofs.Lists.{filter_join, pairs_as, pairs_back, pairs_front, pairs_join}
 use Rattle.core_model.specs.WellPicked.{IsWellPicked}
+use Rattle.st_order.specs.Columns.{Pairwise, of_key, column, FallStrictly, IsJoined}
+use Rattle.job_model.specs.Column.{kept, compacted}
+use Rattle.job_laws.proofs.Rightward.{put_key}
+use Rattle.job_model.specs.Drops.{covers}
+use Rattle.job_laws.proofs.Rising.{keys_put}
+use Rattle.st_order.specs.Sorted.{merged}
+use Rattle.st_order.proofs.Columns.{is_joined}
 
 -- ---- rising keys
 
@@ -108,7 +111,7 @@ unlisted key (entries ∷ runs) each =
     ∙ unlisted key runs (each_back (λ one. same one key ≡ false) (keys_of entries) (flat_map keys_of runs) each)
 
 -- a key that no run has isn't among their rising keys
-pub unlisted_column : (key : List ℕ) (runs : List (List Entry)) → listed key (rising_keys runs) ≡ false → column key runs ≡ []
+pub unlisted_column : (key : List ℕ) (runs : List (List Entry)) → listed key (keys_put runs) ≡ false → column key runs ≡ []
 unlisted_column key runs e = unlisted key runs (puts_list [] (flat_map keys_of runs) key e).1
 
 -- ---- blocks, one for each key
@@ -211,14 +214,14 @@ module _ (block : List ℕ → List Entry) (are : AreBlocks block) where
       (λ other less. each_as (λ entry. entry.key ≡ other) (λ entry. comes_before one entry ≡ true)
       (λ entry there. up one entry (subst (λ k. below k entry.key ≡ true) (sym is) (subst (λ k. below key k ≡ true) (sym there) less))) (block other) (are.keys other)) keys rise.0)) (block key) (are.keys key))
 
-  pub blocks_ordered : (runs : List (List Entry)) → in_order (flat_map block (rising_keys runs)) ≡ true
-  blocks_ordered runs = pairs_in_order (flat_map block (rising_keys runs)) (flat_pairs (rising_keys runs) (puts_rise [] (flat_map keys_of runs) tt))
+  pub blocks_ordered : (runs : List (List Entry)) → in_order (flat_map block (keys_put runs)) ≡ true
+  blocks_ordered runs = pairs_in_order (flat_map block (keys_put runs)) (flat_pairs (keys_put runs) (puts_rise [] (flat_map keys_of runs) tt))
 
   -- the block of each key, where the keys that no run has have none
-  pub blocks_column : (runs : List (List Entry)) (key : List ℕ) → (column key runs ≡ [] → block key ≡ []) → of_key key (flat_map block (rising_keys runs)) ≡ block key
-  blocks_column runs key none = elim (cases_Bool (listed key (rising_keys runs))) [
-    | inl is ↦ of_listed (rising_keys runs) key (puts_rise [] (flat_map keys_of runs) tt) is
-    | inr isn't ↦ of_unlisted (rising_keys runs) key isn't ∙ sym (none (unlisted_column key runs isn't))
+  pub blocks_column : (runs : List (List Entry)) (key : List ℕ) → (column key runs ≡ [] → block key ≡ []) → of_key key (flat_map block (keys_put runs)) ≡ block key
+  blocks_column runs key none = elim (cases_Bool (listed key (keys_put runs))) [
+    | inl is ↦ of_listed (keys_put runs) key (puts_rise [] (flat_map keys_of runs) tt) is
+    | inr isn't ↦ of_unlisted (keys_put runs) key isn't ∙ sym (none (unlisted_column key runs isn't))
   ]
 
 -- ---- what exists
@@ -256,7 +259,7 @@ fall_weakly runs falls key = pairs_as FallOrZero Weakly weakly (column key runs)
 -- there is a compaction of runs whose columns don't rise
 pub compaction_exists : CompactionExists
 compaction_exists inputs live drops falls = (
-  flat_map block (rising_keys inputs),
+  flat_map block (keys_put inputs),
   record {
     ordered = blocks_ordered block are inputs;
     columns = λ key. blocks_column block are inputs key (λ none. ap (compacted live (covers drops key)) none ∙ compacted_none live (covers drops key));
@@ -274,16 +277,7 @@ compaction_exists inputs live drops falls = (
 
 -- there is a joined list of runs whose columns fall
 pub joined_exists : (runs : List (List Entry)) → ((key : List ℕ) → FallStrictly (column key runs)) → (entries : List Entry) × IsJoined runs entries
-joined_exists runs falls = (
-  flat_map (λ key. column key runs) (rising_keys runs),
-  record {
-    ordered = blocks_ordered (λ key. column key runs) are runs;
-    columns = λ key. blocks_column (λ one. column one runs) are runs key (λ none. none);
-  },
-)
-  where
-    are : AreBlocks (λ key. column key runs)
-    are = record { keys = λ key. column_keys key runs; falls = falls }
+joined_exists runs falls = (merged runs, is_joined runs falls)
 
 -- the columns of a running compaction's inputs fall, up to numbers 0
 pub inputs_fall : (low : ℕ) (family : FamilyView) (job : Job) → Compacts low family job → NumbersFall family → ColumnsFallOrZero job.inputs

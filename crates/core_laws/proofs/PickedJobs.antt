@@ -8,16 +8,16 @@ use Rattle.st_base.specs.declared.entry.KeyRange.{KeyRange}
 use Rattle.st_base.specs.Range.{meet}
 use Rattle.base_laws.proofs.Lists.{each_all, each_as, each_front, each_passed}
 use Rattle.base_laws.proofs.Ranges.{range_is_proper}
-use Rattle.core_model.specs.Column.{Pairwise}
-use Rattle.core_model.specs.Pick.{joint_range, tables_meeting, with_next, compaction_of}
-use Rattle.core_model.specs.Picture.{FileEntries, FamilyView, Job, Core, lowest_level, level_at, runs_of, tables_in, table_range}
+use Rattle.core_model.specs.Pick.{joint_range, compaction_of}
+use Rattle.core_model.specs.Picture.{FileEntries, FamilyView, Job, Core, lowest_level, level_at, runs_of, tables_in, table_range, has_file}
 use Rattle.core_model.specs.RelationParts.{IsView, IsLevel, LevelsApart, IsCompacting, IsInputLevel, ShareNoKey}
 use Rattle.core_laws.proofs.LevelLists.{each_level, pairs_with}
 use Rattle.core_laws.proofs.Middle.{tables_ordered}
-use Rattle.core_laws.proofs.TableParts.{part_self, part_behind, part_both, part_front, part_filter, part_each, Differ, files, has_file, has_own_files, has_file_behind, part_is_filter, pairs_any, outside, drop_level, take_level, take_drop, level_of_take, level_of_drop, a_level}
-use Rattle.core_laws.proofs.PickCases.{Before, level_shares_no_key, beside_joint, length_entries, length_both}
+use Rattle.core_laws.proofs.TableParts.{part_self, part_behind, part_both, part_front, part_filter, part_each, Differ, files, has_own_files, has_file_behind, part_is_filter, pairs_any, outside, drop_level, take_level, take_drop, level_of_take, level_of_drop, a_level}
+use Rattle.core_laws.proofs.PickCases.{Before, level_shares_no_key, beside_joint, length_entries, length_both, tables_meeting, with_next}
 use Rattle.core_laws.proofs.ByPlace.{each_both}
 use Rattle.core_model.specs.WellPicked.{IsPartOf}
+use Rattle.st_order.specs.Columns.{Pairwise}
 
 pairs_of_firsts : {X : Type 0} (R : X → X → Type 0) (xs ys : List X) → Each (λ x. (y : X) → R x y) xs → Pairwise R ys → Pairwise R (xs ++ ys)
 pairs_of_firsts R [] ys each pairs = pairs

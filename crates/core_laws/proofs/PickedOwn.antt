@@ -9,18 +9,21 @@ use Rattle.st_base.specs.Bytes.{bytes_cmp}
 use Rattle.st_base.specs.Map.{value_at}
 use Rattle.st_base.specs.declared.entry.Entry.{Entry}
 use Rattle.base_laws.proofs.Lists.{each_all, each_as, each_back, each_front, each_join, none_any}
-use Rattle.core_model.specs.Column.{Pairwise}
 use Rattle.core_model.specs.Compaction.{without_last}
 use Rattle.core_laws.specs.SoundCore.{IsSoundCore, IdsDiffer, IdsGiven, FlushPickedKeepsSound, CompactPickedKeepsSound}
 use Rattle.core_model.specs.Pick.{least_unused, next_job, job_count, flush_of, compaction_of, picked, with_job, joint_range}
 use Rattle.core_model.specs.Picture.{FamilyView, Job, Core, lowest_level, runs_of, tables_in, memories, is_flush, jobs_of, live_numbers}
-use Rattle.core_model.specs.RelationParts.{ForEach, IsView, LevelsApart, NumbersWithin, IsRunning, AreApart, JobsRun, KeepsReads, IsKept, NumbersFall, HasOutputs, AreNoted, IsSortedRun}
+use Rattle.core_model.specs.RelationParts.{ForEach, IsView, LevelsApart, NumbersWithin, IsRunning, JobsApart, JobsRun, KeepsReads, IsKept, NumbersFall, HasOutputs, AreNoted, IsSortedRun}
 use Rattle.core_model.specs.Step.{flush_job, compact_job, free_oldest, has_flush, last_element, Notes}
 use Rattle.core_laws.proofs.Lists.{pairs_join, pairs_front, pairs_back, filter_join}
 use Rattle.core_laws.proofs.OutputsExist.{picked_falls, memory_falls}
 use Rattle.core_laws.proofs.Members.{In, each_in, pairs_in, each_by_in, Differ}
 use Rattle.core_laws.proofs.PickedRuns.{picked_good, picked_runs}
 use Rattle.core_laws.proofs.NamedLists.{map_some}
+use Rattle.st_order.specs.Columns.{Pairwise}
+use Rattle.core_model.specs.WellPicked.{IsWellPicked}
+use Rattle.core_laws.proofs.PickedJobs.{five}
+use Rattle.job_model.specs.Drops.{DontFall}
 
 -- ---- the least number that no job has
 
@@ -163,6 +166,7 @@ module _ (core : Core) (key : List ℕ) (family : FamilyView) (job : Job) (own :
           families = each_join (λ (one : Job). one.family < core.next_family) core.jobs (job ∷ []) own.noted.families
               (subst (λ (n : ℕ). n < core.next_family) (sym mine) (each_in (λ (named : List ℕ × FamilyView). named.1.id < core.next_family) (key, family) core.families given here), tt);
           outputs = each_join HasOutputs core.jobs (job ∷ []) own.noted.outputs (can, tt);
+          live = own.noted.live;
         };
       }
 
@@ -172,7 +176,7 @@ and_then_some : {X Y : Type 0} (f : X → Option Y) (o : Option X) (y : Y) → o
 and_then_some f None y e = absurd cc
 and_then_some f (Some x) y e = (x, refl, e)
 
-pub noted_some : (core : Core) (o : Option Job) → (answer : Rattle.core_model.specs.Event.CoreReply) (after : Core) → Notes core o answer after → (job : Job) × (o ≡ Some job) × (after ≡ with_job core job)
+pub noted_some : (core : Core) (o : Option Job) → (answer : Rattle.core_model.specs.declared.reply.CoreReply.CoreReply) (after : Core) → Notes core o answer after → (job : Job) × (o ≡ Some job) × (after ≡ with_job core job)
 noted_some core None answer after notes = absurd notes
 noted_some core (Some job) answer after notes = (job, refl, notes.1)
 
@@ -203,8 +207,8 @@ module _ (core : Core) (family : FamilyView) (oldest : List Entry) (free : has_f
   abbrev flush : Job
   flush = flush_of core family oldest
 
-  others_apart : Each (λ (one : Job). AreApart (lowest_level core) one flush) (jobs_of core family)
-  others_apart = each_as (λ (one : Job). is_flush one ≡ false) (λ (one : Job). AreApart (lowest_level core) one flush)
+  others_apart : Each (λ (one : Job). JobsApart (lowest_level core) one flush) (jobs_of core family)
+  others_apart = each_as (λ (one : Job). is_flush one ≡ false) (λ (one : Job). JobsApart (lowest_level core) one flush)
       (λ one compacts. record {
         files = each_all (λ (file : ℕ). false ≡ false) (λ file. refl) one.files;
         flush = and_left (is_flush one) true compacts;
@@ -217,12 +221,15 @@ module _ (core : Core) (family : FamilyView) (oldest : List Entry) (free : has_f
     each = each_join (IsRunning (lowest_level core) family) (jobs_of core family) (flush ∷ []) run.each
         (((λ none. record { one = refl; oldest = last_there family.sealed oldest last; files = refl; drops = refl }), (λ some. absurd (omega arith))), tt);
     ranges = each_join (λ (one : Job). one.range ≡ joint_range one.inputs) (jobs_of core family) (flush ∷ []) run.ranges (refl, tt);
-    apart = pairs_join (AreApart (lowest_level core)) (jobs_of core family) (flush ∷ []) run.apart (tt, tt)
-        (each_as (λ (one : Job). AreApart (lowest_level core) one flush) (λ (one : Job). Each (AreApart (lowest_level core) one) (flush ∷ [])) (λ one apart. (apart, tt)) (jobs_of core family) others_apart);
+    apart = pairs_join (JobsApart (lowest_level core)) (jobs_of core family) (flush ∷ []) run.apart (tt, tt)
+        (each_as (λ (one : Job). JobsApart (lowest_level core) one flush) (λ (one : Job). Each (JobsApart (lowest_level core) one) (flush ∷ [])) (λ one apart. (apart, tt)) (jobs_of core family) others_apart);
   }
 
-  flush_outputs : IsView family → HasOutputs flush
-  flush_outputs view = record {
+  flush_outputs : IsView family → DontFall (live_numbers core) → HasOutputs flush
+  flush_outputs view live = record {
+    level = omega arith;
+    live = live;
+    drops = record { proper = tt; apart = tt };
     columns = memory_falls oldest (of_last IsSortedRun (each_front IsSortedRun (memories family) (runs_of (tables_in family.levels)) view.rows).1).ordered;
     flush = λ flush. (refl, (of_last (λ entries. 1 ≤ length entries) view.sealed, tt), refl);
   }
@@ -253,7 +260,7 @@ flush_picked_own core name answer after own ids given within does =
     let bound : NumbersWithin core.last f.0 = each_in (λ (named : List ℕ × FamilyView). NumbersWithin core.last named.1) (h.0, f.0) core.families within h.1 in
     let view : IsView f.0 = each_in (λ (named : List ℕ × FamilyView). IsView named.1) (h.0, f.0) core.families own.views h.1 in
     subst IsSoundCore (ap (with_job core) o.2 ∙ sym n.2)
-    (picked_own core h.0 f.0 (flush_of core f.0 o.0) own ids given h.1 refl refl (flush_runs core f.0 o.0 c.0 c.1 run bound) (flush_keeps core f.0 o.0 c.0 c.1 run bound) (flush_outputs core f.0 o.0 c.0 c.1 run bound view))
+    (picked_own core h.0 f.0 (flush_of core f.0 o.0) own ids given h.1 refl refl (flush_runs core f.0 o.0 c.0 c.1 run bound) (flush_keeps core f.0 o.0 c.0 c.1 run bound) (flush_outputs core f.0 o.0 c.0 c.1 run bound view own.noted.live))
 
 -- ---- a compaction that is picked
 
@@ -276,6 +283,9 @@ compact_picked_own core name whole answer after own ids given within falls does 
     let p = picked_runs core f.0 whole o.0 view apart bound files run o.1 in
     let down : NumbersFall f.0 = each_in (λ (named : List ℕ × FamilyView). NumbersFall named.1) (h.0, f.0) core.families falls h.1 in
     let columns = picked_falls core f.0 whole o.0 view apart down files o.1 in
-    let positive : 1 ≤ (compaction_of core f.0 o.0).level = (picked_good core f.0 whole o.0 view apart files o.1).positive in
+    let good : IsWellPicked core f.0 o.0 = picked_good core f.0 whole o.0 view apart files o.1 in
+    let positive : 1 ≤ (compaction_of core f.0 o.0).level = good.positive in
+    let low : (compaction_of core f.0 o.0).level ≤ lowest_level core = good.compacts.level in
+    let six : lowest_level core ≤ 6 = (five core).1 in
     subst IsSoundCore (ap (with_job core) o.2 ∙ sym n.2)
-    (picked_own core h.0 f.0 (compaction_of core f.0 o.0) own ids given h.1 refl refl p.0 p.1 (record { columns = columns; flush = λ flush. absurd (let e : o.0.level ≡ 0 = eqb-true o.0.level 0 flush in omega arith) }))
+    (picked_own core h.0 f.0 (compaction_of core f.0 o.0) own ids given h.1 refl refl p.0 p.1 (record { level = omega arith; columns = columns; live = own.noted.live; drops = good.drops; flush = λ flush. absurd (let e : o.0.level ≡ 0 = eqb-true o.0.level 0 flush in omega arith) }))

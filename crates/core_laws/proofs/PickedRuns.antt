@@ -1,6 +1,6 @@
 -- What is picked runs beside the others, and keeps reads.
-use Rattle.std.proofs.Common.{◌≡◌, ℕ, ◌+◌, ◌<◌, ◌≤◌, ◌⊎◌, Bool, true, false, cond, ◌&&◌, not, List, [], ◌∷◌, length, take, drop, Some, None, refl, sym, subst, ◌∙◌, inl, inr, arith, add-one}
-use Rattle.std.specs.Prelude.{nat_lt, IsFalse, ◌==◌, Contains}
+use Rattle.std.proofs.Common.{◌≡◌, ℕ, ◌+◌, ◌<◌, zero, suc, ◌≤◌, ◌⊎◌, Bool, true, false, cond, ◌&&◌, not, List, [], ◌∷◌, ◌++◌, length, take, drop, Some, None, refl, sym, ap, ap₂, subst, ◌∙◌, inl, inr, arith, add-one}
+use Rattle.std.specs.Prelude.{map, nat_lt, IsFalse, ◌==◌, Contains}
 use Rattle.std.specs.List.{list_any, AllByRecursion as Each}
 use Rattle.std.proofs.lemmas.Bool.{cases_Bool, cases_lt, and_parts, and_right, ne_eqb, eq-eqb, eqb-false, lt-ltb, ltb-true, false≢true}
 use Rattle.std.proofs.lemmas.List.Elements.{recursion_from_All, All-contains_itself}
@@ -10,21 +10,52 @@ use Rattle.st_base.specs.Range.{is_in_range, meet, range_of}
 use Rattle.base_laws.proofs.Lists.{any_none, each_as, each_back, each_join, each_map, each_passed, map_each, none_any}
 use Rattle.base_laws.proofs.Ranges.{both_within_meet, range_has_keys, range_is_proper}
 use Rattle.core_laws.specs.Claims.{PickedRuns}
-use Rattle.core_model.specs.Column.{Pairwise}
-use Rattle.core_model.specs.Drops.{drop_runs, rising_keys}
-use Rattle.core_model.specs.Pick.{joint_range, is_free_job, PickedTables, pick, pick_whole, picked, with_next, lower_ranges, compaction_of}
+use Rattle.core_model.specs.Pick.{joint_range, is_free_job, PickedTables, pick, pick_whole, picked, lower_ranges, compaction_of}
 use Rattle.core_model.specs.Picture.{FileEntries, FamilyView, Job, Core, lowest_level, level_at, runs_of, tables_in, memories, table_range, is_input, is_flush, jobs_of, running_of, live_numbers}
-use Rattle.core_model.specs.RelationParts.{IsView, LevelsApart, NumbersWithin, IsCompacting, IsRunning, AreApart, KeepsReads, IsKept}
+use Rattle.core_model.specs.RelationParts.{IsView, LevelsApart, NumbersWithin, IsCompacting, IsRunning, JobsApart, KeepsReads, IsKept}
 use Rattle.core_laws.proofs.Keys.{joint_has_ranges, LiesIn, within_lies}
 use Rattle.core_laws.proofs.Middle.{tables_ordered}
-use Rattle.core_laws.proofs.DropRuns.{runs_are_clear, runs_within, rising_each, IsProper, HasEnds, IsClear}
+use Rattle.job_laws.proofs.DropRuns.{runs_are_clear, runs_within, rising_each, IsProper, HasEnds, IsClear}
 use Rattle.core_laws.proofs.TableParts.{part_self, part_front, part_each, Differ, files, each_swap, take_drop}
-use Rattle.core_laws.proofs.PickCases.{IsPick, pick_is}
+use Rattle.core_laws.proofs.PickCases.{IsPick, free_same, pick_is, with_next}
 use Rattle.core_laws.proofs.PickedJobs.{five, pick_part, pick_compacts, whole_inputs, whole_compacts}
 use Rattle.core_laws.proofs.Lists.{pairs_join}
 use Rattle.core_laws.proofs.ByPlace.{each_both}
-use Rattle.core_model.specs.WellPicked.{IsPartOf}
-use Rattle.core_model.specs.WellPicked.{IsWellPicked}
+use Rattle.core_model.specs.WellPicked.{IsPartOf, IsWellPicked}
+use Rattle.st_order.specs.Columns.{Pairwise}
+use Rattle.job_model.specs.Drops.{drop_runs, rising_keys, AreApart}
+use Rattle.job_model.specs.Level.{runs_in}
+use Rattle.job_laws.proofs.Ranges.{drop_runs_apart}
+use Rattle.st_base.specs.declared.entry.Entry.{Entry}
+use Rattle.core_laws.proofs.LevelLists.{map_append}
+
+-- the job's ranges of dropping stand by key
+picked_drops : (core : Core) (family : FamilyView) (chosen : PickedTables) → AreApart (compaction_of core family chosen).drops
+picked_drops core family chosen = go core.behind
+  where
+    go : (b : Bool) → AreApart (cond b [] (drop_runs (lower_ranges family chosen.level) (rising_keys (runs_of chosen.inputs))))
+    go true = record { proper = tt; apart = tt }
+    go false = drop_runs_apart (lower_ranges family chosen.level) (runs_of chosen.inputs)
+
+-- the ranges of the tables below a level
+runs_joined_ranges : (levels : List (List FileEntries)) → map range_of (runs_in (map runs_of levels)) ≡ map table_range (tables_in levels)
+runs_joined_ranges [] = refl
+runs_joined_ranges (tables ∷ levels) =
+    map_append range_of (runs_of tables) (runs_in (map runs_of levels))
+    ∙ ap₂ (λ (front rest : List KeyRange). front ++ rest) (own tables) (runs_joined_ranges levels)
+    ∙ sym (map_append table_range tables (tables_in levels))
+  where
+    own : (here : List FileEntries) → map range_of (runs_of here) ≡ map table_range here
+    own [] = refl
+    own (table ∷ here) = ap (λ (rest : List KeyRange). table_range table ∷ rest) (own here)
+
+runs_dropped : (n : ℕ) (levels : List (List FileEntries)) → drop n (map runs_of levels) ≡ map runs_of (drop n levels)
+runs_dropped zero levels = refl
+runs_dropped (suc n) [] = refl
+runs_dropped (suc n) (tables ∷ levels) = runs_dropped n levels
+
+lower_are : (family : FamilyView) (level : ℕ) → lower_ranges family level ≡ map table_range (tables_in (drop (level + 1) family.levels))
+lower_are family level = ap (λ (levels : List (List (List Entry))). map range_of (runs_in levels)) (runs_dropped (level + 1) family.levels) ∙ runs_joined_ranges (drop (level + 1) family.levels)
 
 pick_good : (core : Core) (family : FamilyView) (n : ℕ) (inputs : List FileEntries) → IsView family → LevelsApart family → Pairwise Differ (tables_in family.levels)
     → n ≤ 3 → IsPick family n inputs → is_free_job (running_of core family) (lowest_level core) (n + 1) inputs ≡ true → IsWellPicked core family (record { level = n + 1; inputs = inputs })
@@ -38,6 +69,7 @@ pick_good core family n inputs view apart differ le pick free = record {
       (subst (λ k. IsPartOf (with_next pick.top (level_at family k)) (tables_in family.levels)) (sym (add-one n)) (pick_part family n pick.top view le pick.part));
   positive = omega arith;
   free = inr (free, omega (arith, (five core).0));
+  drops = picked_drops core family (record { level = n + 1; inputs = inputs });
 }
 
 whole_good : (core : Core) (family : FamilyView) (jobs : List Job) (chosen : PickedTables) → IsView family → Pairwise Differ (tables_in family.levels) → jobs_of core family ≡ jobs
@@ -55,6 +87,7 @@ whole_good core family [] chosen view differ none e = split (nat_lt 0 (length (w
           part = subst (IsPartOf (whole_inputs family (lowest_level core))) (sym (take_drop family.levels (lowest_level core + 1))) (part_front (part_self (whole_inputs family (lowest_level core))) (tables_in (drop (lowest_level core + 1) family.levels)));
           positive = omega (arith, (five core).0);
           free = inl none;
+          drops = picked_drops core family (record { level = lowest_level core; inputs = whole_inputs family (lowest_level core) });
         })
 
 pub picked_good : (core : Core) (family : FamilyView) (whole : Bool) (chosen : PickedTables) → IsView family → LevelsApart family → Pairwise Differ (tables_in family.levels)
@@ -82,7 +115,7 @@ free_beside running lowest_level level inputs free =
     let lone : Job → Bool = λ (job : Job). job.level == lowest_level in
     let taken : FileEntries → Bool = λ (table : FileEntries). list_any (λ job. is_input job table) running in
     let met : Job → Bool = λ (job : Job). job.level == level && meet job.range (joint_range (runs_of inputs)) in
-    let p = and_parts (not (list_any lone running) && not (list_any taken inputs)) (not (list_any met running)) free in
+    let p = and_parts (not (list_any lone running) && not (list_any taken inputs)) (not (list_any met running)) (sym (free_same running lowest_level level inputs) ∙ free) in
     let q = and_parts (not (list_any lone running)) (not (list_any taken inputs)) p.0 in
     each_as (λ job. (lone job ≡ false) × ((Each (λ table. is_input job table ≡ false) inputs) × (met job ≡ false))) (IsBeside lowest_level level inputs)
     (λ job all. record { lone = all.0; files = all.1.0; range = all.1.1 }) running
@@ -106,7 +139,7 @@ no_file files' inputs each =
     (each_as (λ table. list_any (λ file. file == table.file) files' ≡ false) (λ table. Each (λ file. (file == table.file) ≡ false) files') (λ table none. none_any (λ file. file == table.file) files' none) inputs each))
 
 beside_apart : (core : Core) (family : FamilyView) (chosen : PickedTables) (old : Job) → IsWellPicked core family chosen → chosen.level < lowest_level core → IsRunning (lowest_level core) family old
-    → (nat_lt 0 old.level ≡ true → IsBeside (lowest_level core) chosen.level chosen.inputs old) → AreApart (lowest_level core) old (compaction_of core family chosen)
+    → (nat_lt 0 old.level ≡ true → IsBeside (lowest_level core) chosen.level chosen.inputs old) → JobsApart (lowest_level core) old (compaction_of core family chosen)
 beside_apart core family chosen old good low runs beside = record {
   files = elim (cases_lt 0 old.level) [
     | inl lt ↦ no_file old.files chosen.inputs (beside (lt-ltb 0 old.level lt)).files
@@ -128,14 +161,14 @@ beside_apart core family chosen old good low runs beside = record {
         elim (cases_lt old.level (lowest_level core)) [ inl lt ↦ lt | inr ge ↦ absurd (differs (omega arith)) ]
 
 pub picked_apart : (core : Core) (family : FamilyView) (chosen : PickedTables) → IsWellPicked core family chosen → Each (IsRunning (lowest_level core) family) (jobs_of core family)
-    → Each (λ old. AreApart (lowest_level core) old (compaction_of core family chosen)) (jobs_of core family)
+    → Each (λ old. JobsApart (lowest_level core) old (compaction_of core family chosen)) (jobs_of core family)
 picked_apart core family chosen good each = split good.free
   where
     split : (jobs_of core family ≡ []) ⊎ ((is_free_job (running_of core family) (lowest_level core) chosen.level chosen.inputs ≡ true) × (chosen.level < lowest_level core))
-        → Each (λ old. AreApart (lowest_level core) old (compaction_of core family chosen)) (jobs_of core family)
-    split (inl none) = subst (Each (λ old. AreApart (lowest_level core) old (compaction_of core family chosen))) (sym none) tt
+        → Each (λ old. JobsApart (lowest_level core) old (compaction_of core family chosen)) (jobs_of core family)
+    split (inl none) = subst (Each (λ old. JobsApart (lowest_level core) old (compaction_of core family chosen))) (sym none) tt
     split (inr (free, low)) =
-        each_as (λ old. IsRunning (lowest_level core) family old × (nat_lt 0 old.level ≡ true → IsBeside (lowest_level core) chosen.level chosen.inputs old)) (λ old. AreApart (lowest_level core) old (compaction_of core family chosen))
+        each_as (λ old. IsRunning (lowest_level core) family old × (nat_lt 0 old.level ≡ true → IsBeside (lowest_level core) chosen.level chosen.inputs old)) (λ old. JobsApart (lowest_level core) old (compaction_of core family chosen))
         (λ old both. beside_apart core family chosen old good low both.0 both.1) (jobs_of core family)
         (each_both (IsRunning (lowest_level core) family) (λ old. nat_lt 0 old.level ≡ true → IsBeside (lowest_level core) chosen.level chosen.inputs old) (jobs_of core family) each
         (each_passed (IsBeside (lowest_level core) chosen.level chosen.inputs) (λ job. nat_lt 0 job.level) (jobs_of core family) (free_beside (running_of core family) (lowest_level core) chosen.level chosen.inputs free)))
@@ -201,7 +234,7 @@ picked_keeps core family chosen view within good = record {
     clear =
         each_as (IsClear (lower_ranges family chosen.level)) (λ run. Each (Each (λ entry. IsFalse (is_in_range run entry.key))) (runs_of lower)) one_clear runs
         (runs_are_clear (lower_ranges family chosen.level) (rising_keys (runs_of chosen.inputs))
-        (each_map IsProper table_range lower (each_as (λ table. in_order table.entries ≡ true) (λ table. IsProper (table_range table)) (λ table is. range_is_proper table.entries is) lower lower_ordered)))
+        (subst (Each IsProper) (sym (lower_are family chosen.level)) (each_map IsProper table_range lower (each_as (λ table. in_order table.entries ≡ true) (λ table. IsProper (table_range table)) (λ table is. range_is_proper table.entries is) lower lower_ordered))))
       where
         one_clear : (run : KeyRange) → IsClear (lower_ranges family chosen.level) run → Each (Each (λ entry. IsFalse (is_in_range run entry.key))) (runs_of lower)
         one_clear run is =
@@ -209,7 +242,7 @@ picked_keeps core family chosen view within good = record {
             (each_as (λ table. (in_order table.entries ≡ true) × (meet run (table_range table) ≡ false)) (λ table. Each (λ entry. IsFalse (is_in_range run entry.key)) table.entries)
             (λ table both. each_as (λ entry. is_in_range (table_range table) entry.key ≡ true) (λ entry. IsFalse (is_in_range run entry.key)) (λ entry in'. not_within run (table_range table) entry.key both.1 in') table.entries (range_has_keys table.entries both.0))
             lower
-            (each_both (λ table. in_order table.entries ≡ true) (λ table. meet run (table_range table) ≡ false) lower lower_ordered (map_each (λ range'. meet run range' ≡ false) table_range lower is)))
+            (each_both (λ table. in_order table.entries ≡ true) (λ table. meet run (table_range table) ≡ false) lower lower_ordered (map_each (λ range'. meet run range' ≡ false) table_range lower (subst (Each (λ range'. meet run range' ≡ false)) (lower_are family chosen.level) is))))
 
 pub picked_runs : PickedRuns
 picked_runs core family whole chosen view apart within differ run is =
@@ -218,8 +251,8 @@ picked_runs core family whole chosen view apart within differ run is =
       record {
         each = each_join (IsRunning (lowest_level core) family) (jobs_of core family) (job ∷ []) run.each (((λ e. absurd (omega (arith, good.positive))), (λ le. good.compacts)), tt);
         ranges = each_join (λ one. one.range ≡ joint_range one.inputs) (jobs_of core family) (job ∷ []) run.ranges (refl, tt);
-        apart = pairs_join (AreApart (lowest_level core)) (jobs_of core family) (job ∷ []) run.apart (tt, tt)
-            (each_as (λ old. AreApart (lowest_level core) old job) (λ old. Each (AreApart (lowest_level core) old) (job ∷ [])) (λ old apart'. (apart', tt)) (jobs_of core family) (picked_apart core family chosen good run.each));
+        apart = pairs_join (JobsApart (lowest_level core)) (jobs_of core family) (job ∷ []) run.apart (tt, tt)
+            (each_as (λ old. JobsApart (lowest_level core) old job) (λ old. Each (JobsApart (lowest_level core) old) (job ∷ [])) (λ old apart'. (apart', tt)) (jobs_of core family) (picked_apart core family chosen good run.each));
       },
       picked_keeps core family chosen view within good,
     )

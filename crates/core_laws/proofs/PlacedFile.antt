@@ -25,11 +25,10 @@ use Rattle.st_model.specs.State.{family_of, is_known, lowest as lowest_of}
 use Rattle.base_laws.proofs.Lists.{each_filter, each_join}
 use Rattle.base_laws.proofs.Maps.{found_each}
 use Rattle.base_laws.proofs.Ranges.{range_has_keys, within_parts}
-use Rattle.core_model.specs.Column.{found_at}
 use Rattle.core_model.specs.Commit.{outline, comes_behind, RequestFile, family_at, level_choice, planned_number, plan_by_rule, number_refusal, level_refusal, placed_in_plan}
 use Rattle.core_model.specs.Event.{argument_of_part}
 use Rattle.core_model.specs.Relation.{Represents}
-use Rattle.core_model.specs.Level.{least_within, level_rule}
+use Rattle.core_model.specs.Level.{level_rule}
 use Rattle.core_model.specs.Pick.{joint_range}
 use Rattle.core_model.specs.Picture.{FileEntries, FamilyView, Job, Part, Core, lowest_level, runs_of, tables_in, memories, walk, find_mark, table_range, is_input, jobs_of, running_of, new_view}
 use Rattle.core_model.specs.Request.{IsStagedTable}
@@ -42,9 +41,11 @@ use Rattle.core_laws.proofs.FileLift.{last_read}
 use Rattle.core_laws.proofs.FileReads.{covered_has_mark}
 use Rattle.core_laws.proofs.LevelRule.{rule_within, no_cause_no_key, high_is_some}
 use Rattle.core_laws.proofs.NoneLeft.{or_none, map_option_none}
-use Rattle.core_laws.proofs.RangeKeys.{nothing_within}
+use Rattle.job_laws.proofs.RangeKeys.{nothing_within}
 use Rattle.core_laws.proofs.ByPlace.{each_there}
 use Rattle.core_laws.proofs.AfterInstall.{lowest_le}
+use Rattle.job_model.specs.Column.{found_at}
+use Rattle.st_order.specs.Least.{least_within}
 
 -- the cause that holds of an argument is the same of the core and of the model
 pub same_sure : (core : Core) (state : ModelState) (argument : Argument) → core.live ≡ state.live → core.last ≡ state.last → sure_cause (outline core) argument ≡ sure_cause state argument

@@ -25,11 +25,9 @@ use Rattle.st_model.specs.State.{family_of, is_known}
 use Rattle.base_laws.proofs.Lists.{each_join}
 use Rattle.base_laws.proofs.Maps.{found_each}
 use Rattle.base_laws.proofs.Ranges.{both_within_meet}
-use Rattle.core_model.specs.Column.{Pairwise}
 use Rattle.core_model.specs.Commit.{outline, comes_behind, RequestFile, request_files_of, request_files_after, level_choice, planned_number, plan_file, plan_by_rule, plan_behind, put_planned, plan_from, number_refusal, level_refusal, placed_in_plan, taken_in_plan, put_table, put_file, renumbered}
 use Rattle.core_model.specs.Event.{argument_of_part, arguments_after}
 use Rattle.core_model.specs.Relation.{Represents}
-use Rattle.core_model.specs.Level.{least_within}
 use Rattle.core_model.specs.Picture.{FileEntries, FamilyView, Job, Part, Core, lowest_level, runs_of, tables_in, memories, walk, table_range, put_by_key}
 use Rattle.core_model.specs.Request.{IsStagedTable}
 use Rattle.core_model.specs.RelationParts.{IsView}
@@ -42,6 +40,8 @@ use Rattle.core_laws.proofs.FileLift.{value_changed, kept_there}
 use Rattle.core_laws.proofs.FileStep.{file_keeps_underway}
 use Rattle.core_laws.proofs.NoneLeft.{or_none, map_option_none}
 use Rattle.core_laws.proofs.PlacedFile.{NoneIn, IsKnownOrOut, IsNextFile, rule_placed}
+use Rattle.st_order.specs.Columns.{Pairwise}
+use Rattle.st_order.specs.Least.{least_within}
 
 -- ---- numbers
 

@@ -1,5 +1,5 @@
 -- The events that touch no table: writes, snapshots, families, sealing, the turn's end, a job's end.
-use Rattle.std.proofs.Common.{◌≡◌, ℕ, suc, ◌+◌, ◌<◌, Bool, true, false, cond, ◌||◌, not, ◌==◌, List, [], ◌∷◌, ◌++◌, length, map, filter, Option, Some, None, refl, sym, ap, ap₂, subst, subst₂, ◌∙◌, inl, inr, arith}
+use Rattle.std.proofs.Common.{◌≡◌, ℕ, suc, ◌+◌, ◌<◌, ◌≤◌, Bool, true, false, cond, ◌||◌, not, ◌==◌, List, [], ◌∷◌, ◌++◌, length, map, filter, Option, Some, None, refl, sym, ap, ap₂, subst, subst₂, ◌∙◌, inl, inr, arith}
 use Rattle.std.specs.Prelude.{Contains, IsTrue, IfSome, nat_lt}
 use Rattle.std.specs.List.{list_any, AllByRecursion as Each}
 use Rattle.st_base.specs.Bytes.{same}
@@ -19,10 +19,11 @@ use Rattle.st_model.specs.State.{has_family, greatest_number}
 use Rattle.st_model.specs.declared.refusal.Refusal.TheVariants.{UnknownFamily, NumbersSpent, StoreFull}
 use Rattle.base_laws.proofs.Lists.{each_as, each_filter, each_join, each_map, map_each}
 use Rattle.core_model.specs.Commit.{outline}
-use Rattle.core_model.specs.Event.{request_of_parts, Event, CoreReply, Write, Snap, Release, TurnReturned, BatchWritten, SnapshotTaken, At, NotNow}
+use Rattle.core_model.specs.Event.{request_of_parts, Event, Write, Snap, Release, TurnReturned}
+use Rattle.core_model.specs.declared.reply.CoreReply.{CoreReply}
+use Rattle.core_model.specs.declared.reply.CoreReply.TheVariants.{BatchWritten, SnapshotTaken, At, NotNow}
 use Rattle.core_model.specs.Relation.{Represents}
 use Rattle.core_model.specs.Picture.{FileEntries, FamilyView, Job, Turn, Core, all_tables, live_numbers}
-use Rattle.core_model.specs.Column.{Pairwise}
 use Rattle.core_model.specs.Request.{IsRequest, NamesThere}
 use Rattle.st_model.specs.Refusals.{behind_refusals}
 use Rattle.core_model.specs.Run.{IsCoreStep, Refines, accepts, next_state, state_after_event, answer_or}
@@ -35,6 +36,9 @@ use Rattle.core_laws.proofs.FamilyPair.{IsRead, Pair, Stays, pairs_stand, rest_s
 use Rattle.core_laws.proofs.ChangesSound.{apply_sound}
 use Rattle.core_laws.proofs.WrittenFamily.{ops_written}
 use Rattle.core_laws.proofs.FileColumns.{nil_left}
+use Rattle.st_order.specs.Columns.{Pairwise}
+use Rattle.core_laws.proofs.Members.{map_pairs, pairs_map}
+use Rattle.core_laws.proofs.Lists.{pairs_filter, pairs_join}
 
 -- ---- one step
 
@@ -101,6 +105,7 @@ written_stands core state batch s turn names fits = stands_of (with_batch core b
       behind = refl;
       last = omega arith;
       live = λ job began h. h;
+      fall = λ h. h;
     }) (rest_stands core state s))
     (no_turn core.turn _ turn)
     (apply_sound state (change.Write batch) s.sound names (λ files e. absurd cc))
@@ -172,6 +177,13 @@ all_read : (last : ℕ) (live : List Snapshot) → Each (λ s. IsRead last (map 
 all_read last live = map_each (IsRead last (map (λ (live : Snapshot). live.number) live)) (λ (live : Snapshot). live.number) live
     (each_as (Contains (map (λ (live : Snapshot). live.number) live)) (IsRead last (map (λ (live : Snapshot). live.number) live)) (λ n c. inr c) (map (λ (live : Snapshot). live.number) live) (each_contained (map (λ (live : Snapshot). live.number) live)))
 
+-- numbers, and snapshots by their numbers, that don't fall
+abbrev AtMost : ℕ → ℕ → Type 0
+AtMost one other = one ≤ other
+
+abbrev NotAbove : Snapshot → Snapshot → Type 0
+NotAbove one other = one.number ≤ other.number
+
 pub snapped_stands : (core : Core) (state : ModelState) → Represents core state → NoTurn core → Represents (with_snapshot core) (apply state change.Snap)
 snapped_stands core state s turn = stands_of (with_snapshot core) (apply state change.Snap)
     (record {
@@ -195,12 +207,19 @@ snapped_stands core state s turn = stands_of (with_snapshot core) (apply state c
       last = omega arith;
       live = λ job began h. each_map (IsKept job) (λ (live : Snapshot). live.number) (core.live ++ taken_now)
           (each_join (λ (s : Snapshot). IsKept job s.number) core.live taken_now (map_each (IsKept job) (λ (live : Snapshot). live.number) core.live h) ((inr began), tt));
+      fall = λ h. pairs_map AtMost (λ (live : Snapshot). live.number) (core.live ++ taken_now)
+          (pairs_join NotAbove core.live taken_now (map_pairs AtMost (λ (live : Snapshot). live.number) core.live h) (tt, tt)
+          (each_as (λ (one : Snapshot). one.number ≤ core.last) (λ (one : Snapshot). Each (NotAbove one) taken_now) (λ one le. (le, tt)) core.live lives));
     }) (rest_stands core state s))
     (no_turn core.turn _ turn)
     (apply_sound state change.Snap s.sound refl (λ files e. absurd cc))
   where
     taken_now : List Snapshot
     taken_now = record { id = core.place + 1; number = core.last } ∷ []
+
+    lives : Each (λ (one : Snapshot). one.number ≤ core.last) core.live
+    lives = subst (λ (live : List Snapshot). Each (λ one. one.number ≤ core.last) live) (sym s.same.live)
+        (subst (λ (n : ℕ). Each (λ (one : Snapshot). one.number ≤ n) state.live) (sym s.same.last) s.sound.live)
 
 pub snap_refines : (core : Core) (state : ModelState) (answer : CoreReply) (after : Core) → Represents core state → IsCoreStep core Snap answer after → Refines core state Snap answer after
 snap_refines core state answer after s (inr h) = not_now core state Snap answer after s h
@@ -234,6 +253,8 @@ released_stands core state id s turn names = stands_of (without_snapshot core id
       last = omega arith;
       live = λ job began h. each_map (IsKept job) (λ (live : Snapshot). live.number) (filter (λ live. not (live.id == id)) core.live)
           (each_filter (λ (s : Snapshot). IsKept job s.number) (λ live. not (live.id == id)) core.live (map_each (IsKept job) (λ (live : Snapshot). live.number) core.live h));
+      fall = λ h. pairs_map AtMost (λ (live : Snapshot). live.number) (filter (λ live. not (live.id == id)) core.live)
+          (pairs_filter NotAbove (λ live. not (live.id == id)) core.live (map_pairs AtMost (λ (live : Snapshot). live.number) core.live h));
     }) (rest_stands core state s))
     (no_turn core.turn _ turn)
     (apply_sound state (change.Release id) s.sound names (λ files e. absurd cc))
@@ -269,7 +290,7 @@ pub returned_stands : (core : Core) (state : ModelState) → Represents core sta
 returned_stands core state s = stands_of (without_turn core) state
     (record { place = s.same.place; last = s.same.last; charge = s.same.charge; behind = s.same.behind; families = s.same.families; next_family = s.same.next_family; live = s.same.live })
     (pairs_stand core state s)
-    (rest_left core (without_turn core) (record { families = zip_itself Stays stays_itself core.families; jobs = refl; made = refl; next = omega arith; behind = refl; last = omega arith; live = λ job began h. h }) (rest_stands core state s))
+    (rest_left core (without_turn core) (record { families = zip_itself Stays stays_itself core.families; jobs = refl; made = refl; next = omega arith; behind = refl; last = omega arith; live = λ job began h. h; fall = λ h. h }) (rest_stands core state s))
     tt s.sound
 
 pub turn_returned_refines : (core : Core) (state : ModelState) (answer : CoreReply) (after : Core) → Represents core state → IsCoreStep core TurnReturned answer after → Refines core state TurnReturned answer after

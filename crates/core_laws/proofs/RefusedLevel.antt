@@ -23,7 +23,6 @@ use Rattle.st_model.specs.State.{family_of, is_known, lowest as lowest_of}
 use Rattle.base_laws.proofs.Lists.{each_join}
 use Rattle.base_laws.proofs.Maps.{found_each}
 use Rattle.base_laws.proofs.Ranges.{under_each}
-use Rattle.core_model.specs.Column.{Pairwise}
 use Rattle.core_model.specs.Commit.{outline, comes_behind, RequestFile, request_files, request_files_of, request_files_after, family_at, level_choice, plan_file, plan_by_rule, plan_behind, put_planned, plan_from, plan, level_refusal, taken_in_plan, put_file, met_at}
 use Rattle.core_model.specs.Event.{argument_of_part, arguments_after, request_of_parts}
 use Rattle.core_model.specs.Relation.{Represents}
@@ -41,6 +40,7 @@ use Rattle.core_laws.proofs.FileStep.{file_keeps_underway}
 use Rattle.core_laws.proofs.LevelRule.{rule_within}
 use Rattle.core_laws.proofs.PlacedPlan.{plan_append, front_keeps, other_stays, jobs_stay, flag_stays, is_some_value}
 use Rattle.core_laws.proofs.CauseNames.{known_is_in, four_true, named_cause, named_met}
+use Rattle.st_order.specs.Columns.{Pairwise}
 
 -- ---- found by their numbers
 

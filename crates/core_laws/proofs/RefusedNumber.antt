@@ -21,7 +21,6 @@ use Rattle.st_model.specs.Request.{Argument, files_from, argument_of, file_of_ar
 use Rattle.st_base.specs.Range.{is_in_range}
 use Rattle.st_model.specs.State.{family_of}
 use Rattle.base_laws.proofs.Lists.{append_none}
-use Rattle.core_model.specs.Column.{Pairwise}
 use Rattle.core_model.specs.Commit.{outline, comes_behind, RequestFile, request_files, request_files_of, request_files_after, family_at, level_choice, plan_file, plan_by_rule, plan_behind, put_planned, plan_from, number_refusal, taken_in_plan}
 use Rattle.core_model.specs.Event.{argument_of_part, arguments_after, request_of_parts}
 use Rattle.core_model.specs.Relation.{Represents}
@@ -40,6 +39,7 @@ use Rattle.core_laws.proofs.CommitReceived.{filter_map_append}
 use Rattle.core_laws.proofs.CommitEvent.{head_append}
 use Rattle.core_laws.proofs.CauseNames.{known_is_in, named_cause, IsCause}
 use Rattle.core_laws.proofs.RefusedLevel.{arguments_found, files_found, named_is, heads_each}
+use Rattle.st_order.specs.Columns.{Pairwise}
 
 three_true : (a b c : Bool) → a ≡ true → b ≡ true → c ≡ true → (a && b && c) ≡ true
 three_true true true true is_a is_b is_c = refl

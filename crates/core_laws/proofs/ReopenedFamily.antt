@@ -22,10 +22,10 @@ use Rattle.st_model.specs.Sound.{KeysRise, WritesWithin}
 use Rattle.base_laws.proofs.Keys.{at_key, comes_before_key}
 use Rattle.base_laws.proofs.Lists.{any_left, any_right, each_as, each_back, each_front, each_join, each_map, map_each}
 use Rattle.st_base.proofs.Same.{same_self}
-use Rattle.core_model.specs.Column.{Pairwise, of_key, column, found_at, Falls}
 use Rattle.core_model.specs.Crash.{newest_of, IsFlushedByCrash, rank, Reopens}
 use Rattle.core_model.specs.Picture.{FileEntries, FamilyView, Core, level_at, runs_of, tables_in, memories, above, walk, find_mark, table_range}
 use Rattle.core_model.specs.RelationParts.{LevelsApart, IsLevel, IsView, HasEntry, IsSortedRun, FitsSizes}
+use Rattle.job_model.specs.Column.{Falls, found_at}
 use Rattle.core_model.specs.Step.{has_memory}
 use Rattle.st_base.proofs.Ordered.{entries_pairs}
 use Rattle.std.proofs.lemmas.Map.Lookups.{exact_bytes}
@@ -38,6 +38,7 @@ use Rattle.core_laws.proofs.InstalledLevels.{column_each, from_columns}
 use Rattle.core_laws.proofs.Lists.{pairs_filter}
 use Rattle.core_laws.proofs.Members.{pairs_of_all}
 use Rattle.core_laws.proofs.FileColumns.{each_level as tables_each}
+use Rattle.st_order.specs.Columns.{Pairwise, of_key, column}
 
 -- ---- what holds of all columns holds of all entries
 

@@ -4,10 +4,10 @@ use Rattle.std.specs.Prelude.{map, filter, flat_map, slice_get, unwrap_or, ◌==
 use Rattle.std.specs.List.{list_any, AllByRecursion as Each}
 use Rattle.std.proofs.lemmas.Bool.{or_left, or_right, ne_eqb, eq-eqb}
 use Rattle.base_laws.proofs.Lists.{any_none, each_as, each_back, each_front, each_map}
-use Rattle.core_model.specs.Column.{Pairwise}
-use Rattle.core_model.specs.Picture.{FileEntries}
+use Rattle.core_model.specs.Picture.{FileEntries, has_file}
 use Rattle.core_laws.proofs.Lists.{pairs_across, pairs_back}
 use Rattle.core_model.specs.WellPicked.{IsPartOf, ended, skipped, taken}
+use Rattle.st_order.specs.Columns.{Pairwise}
 
 pub part_self : (xs : List FileEntries) → IsPartOf xs xs
 part_self [] = ended
@@ -55,9 +55,6 @@ Differ one other = one.file ≡ other.file → ⊥
 
 abbrev pub files : List FileEntries → List ℕ
 files tables = map (λ table. table.file) tables
-
-abbrev pub has_file : List ℕ → FileEntries → Bool
-has_file numbers table = list_any (λ file. file == table.file) numbers
 
 pub lacks_file : (inputs : List FileEntries) (table : FileEntries) → Each (λ one. Differ one table) inputs → has_file (files inputs) table ≡ false
 lacks_file inputs table differ =

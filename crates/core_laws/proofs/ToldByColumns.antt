@@ -21,11 +21,12 @@ use Rattle.base_laws.proofs.Lists.{each_as}
 use Rattle.base_laws.proofs.Maps.{value_set}
 use Rattle.st_base.proofs.Same.{same_self, same_true}
 use Rattle.core_laws.specs.Claims.{CompactionIsOne, MapsAreOne, NewestIsFirst}
-use Rattle.core_model.specs.Column.{Pairwise, of_key, column, first_at, found_at}
 use Rattle.core_model.specs.Picture.{walk}
 use Rattle.core_laws.proofs.ChangesSound.{Rise, less_of}
 use Rattle.core_laws.proofs.InstalledLevels.{column_each}
 use Rattle.core_laws.proofs.Members.{pairs_of_all}
+use Rattle.st_order.specs.Columns.{Pairwise, of_key, column}
+use Rattle.job_model.specs.Column.{first_at, found_at}
 
 -- ---- maps
 

@@ -23,9 +23,10 @@ use Rattle.st_model.specs.Refusals.{MayRefuse, IsFirstRefusal, step_of, refusals
 use Rattle.st_model.specs.Request.{File, Argument, files_from, all_files, range_of_file, argument_of, file_of_argument, asks_behind}
 use Rattle.base_laws.proofs.Lists.{each_all, each_as, each_back, each_filter, each_flat_map, each_front, each_join, each_map, each_take}
 use Rattle.core_model.specs.Commit.{outline, memory_key, flush_needed, flush_refusals, turn_refusals}
-use Rattle.core_model.specs.Event.{argument_of_part, arguments_after, request_of_parts, CoreReply, TurnTaken, TurnGiven}
+use Rattle.core_model.specs.Event.{argument_of_part, arguments_after, request_of_parts, TurnTaken}
+use Rattle.core_model.specs.declared.reply.CoreReply.{CoreReply}
+use Rattle.core_model.specs.declared.reply.CoreReply.TheVariants.{TurnGiven}
 use Rattle.core_model.specs.Relation.{Represents}
-use Rattle.core_model.specs.Level.{lesser_key, least_within}
 use Rattle.core_model.specs.Picture.{FileEntries, FamilyView, Part, Turn, Core, memories, table_range, all_tables, live_numbers}
 use Rattle.core_model.specs.Request.{IsRequest, IsStagedTable}
 use Rattle.core_model.specs.Run.{IsCoreStep, Refines, IsRequestAnswer}
@@ -38,6 +39,7 @@ use Rattle.core_laws.proofs.NamedLists.{Zipped}
 use Rattle.core_laws.proofs.Outline.{unknown_alike}
 use Rattle.core_laws.proofs.FamilyPair.{Pair, Stays, pairs_stand, rest_stands, stands_of, rest_left, stays_itself, zip_itself}
 use Rattle.core_laws.proofs.FileColumns.{nil_left, nil_right}
+use Rattle.st_order.specs.Least.{lesser_key, least_within}
 
 -- ---- what the request's own tests leave of the exact refusals
 
@@ -324,7 +326,7 @@ pub taken_stands : (core : Core) (state : ModelState) (parts : List Part) → Re
 taken_stands core state parts s turn r fresh none = stands_of (with_turn core parts) state
     (record { place = s.same.place; last = s.same.last; charge = s.same.charge; behind = s.same.behind; families = s.same.families; next_family = s.same.next_family; live = s.same.live })
     (pairs_stand core state s)
-    (rest_left core (with_turn core parts) (record { families = zip_itself Stays stays_itself core.families; jobs = refl; made = refl; next = omega arith; behind = refl; last = omega arith; live = λ job began h. h }) (rest_stands core state s)) (
+    (rest_left core (with_turn core parts) (record { families = zip_itself Stays stays_itself core.families; jobs = refl; made = refl; next = omega arith; behind = refl; last = omega arith; live = λ job began h. h; fall = λ h. h }) (rest_stands core state s)) (
       record {
         place = refl;
         fresh = pairs_join HaveOtherFiles (files_in_parts parts) (all_tables core) fresh.differ s.files fresh.placed;

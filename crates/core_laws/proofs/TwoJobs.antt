@@ -5,11 +5,11 @@ use Rattle.st_base.specs.Bytes.{same}
 use Rattle.st_base.specs.declared.entry.Mark.TheVariants.{Gone}
 use Rattle.st_base.specs.declared.entry.Entry.{Entry}
 use Rattle.core_laws.specs.Claims.{Compacts, AreOutputsOf}
-use Rattle.core_model.specs.Column.{compacted}
 use Rattle.core_model.specs.Compaction.{with_compacted}
 use Rattle.core_model.specs.Picture.{FileEntries, FamilyView, Job, level_at, is_input}
-use Rattle.core_model.specs.RelationParts.{IsView, LevelsApart, IsCompacting, IsInputLevel, AreApart, IsSortedRun}
+use Rattle.core_model.specs.RelationParts.{IsView, LevelsApart, IsCompacting, IsInputLevel, JobsApart, IsSortedRun}
 use Rattle.core_laws.proofs.JobsBeside.{installed_leaves_running}
+use Rattle.job_model.specs.Column.{compacted}
 
 abbrev entry : ℕ → ℕ → Entry
 entry key number = record { key = key ∷ []; number = number; mark = Gone }
@@ -123,10 +123,10 @@ lower_runs = record {
     at_level (suc (suc (suc (suc (suc (suc zero)))))) = tt
     at_level (suc (suc (suc (suc (suc (suc (suc n))))))) = tt
 
-one : AreApart 6 upper lower
+one : JobsApart 6 upper lower
 one = record { files = (refl, (refl, tt)); flush = refl; lone = λ a b. (omega arith, omega arith); outputs = λ a e. absurd (omega arith) }
 
-two : AreApart 6 lower upper
+two : JobsApart 6 lower upper
 two = record { files = (refl, (refl, tt)); flush = refl; lone = λ a b. (omega arith, omega arith); outputs = λ a e. absurd (omega arith) }
 
 outs : AreOutputsOf upper (table 9 1 3 ∷ [])

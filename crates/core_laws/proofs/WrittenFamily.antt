@@ -22,7 +22,6 @@ use Rattle.st_model.specs.Sound.{WritesWithin}
 use Rattle.st_model.specs.State.{is_known}
 use Rattle.base_laws.proofs.Lists.{any_left, each_as, each_back, each_front, each_join, each_map, map_each}
 use Rattle.st_base.proofs.Same.{same_self, same_true}
-use Rattle.core_model.specs.Column.{of_key, column, first_at, found_at, FallStrictly}
 use Rattle.core_model.specs.Picture.{FileEntries, FamilyView, level_at, runs_of, tables_in, memories, above, walk, find_mark}
 use Rattle.core_model.specs.RelationParts.{IsNewer, HasKnownKeys, HasWritten, FitsSizes}
 use Rattle.core_model.specs.Step.{put_in_memory, with_memory_entry, with_operations}
@@ -31,6 +30,8 @@ use Rattle.core_laws.proofs.NamedLists.{Zipped, zip_changed}
 use Rattle.core_laws.proofs.FamilyPair.{IsRead, Pair}
 use Rattle.core_laws.proofs.InstalledLevels.{column_each}
 use Rattle.core_laws.proofs.FileColumns.{each_level as level_part}
+use Rattle.st_order.specs.Columns.{of_key, column, FallStrictly}
+use Rattle.job_model.specs.Column.{first_at, found_at}
 
 -- ---- an entry above all others of a memtable
 

@@ -1,20 +1,23 @@
 -- What the laws say beside the claims.
 use Rattle.st_model.specs.State.{new_store}
 use Rattle.core_model.specs.Run.{new_core, EventDoes}
-use Rattle.std.specs.Prelude.{ℕ, Bool, Some, List, [], ◌∷◌, ◌≡◌, ◌<◌, ◌^◌, IsFalse, IsTrue}
+use Rattle.std.specs.Prelude.{ℕ, Bool, Some, List, [], ◌∷◌, ◌≡◌, ◌<◌, ◌^◌, map, IsFalse, IsTrue}
 use Rattle.std.specs.List.{AllByRecursion as Each}
 use Rattle.st_base.specs.Rows.{AreRows}
 use Rattle.st_base.specs.declared.entry.Entry.{Entry}
 use Rattle.core_model.specs.Relation.{Represents}
-use Rattle.core_model.specs.Event.{Event, CoreReply, CompactInstalled, FlushInstalled}
+use Rattle.core_model.specs.Event.{Event, CompactInstalled, FlushInstalled}
+use Rattle.core_model.specs.declared.reply.CoreReply.{CoreReply}
 use Rattle.core_model.specs.Picture.{Core, FileEntries, is_flush, Job, runs_of, tables_in, FamilyView}
-use Rattle.core_model.specs.Compaction.{IsCompaction, cut_tables}
 use Rattle.st_model.specs.declared.state.ModelState.{ModelState}
 use Rattle.core_model.specs.Step.{AreFresh, IsNow, noted_job}
-use Rattle.core_model.specs.Column.{Pairwise}
-use Rattle.core_model.specs.RelationParts.{IsSortedRun, LevelsApart, IsView}
-use Rattle.core_model.specs.Pick.{picked, PickedTables}
+use Rattle.core_model.specs.RelationParts.{LevelsApart, IsView, IsSortedRun}
+use Rattle.job_model.specs.Pick.{pick_of}
+use Rattle.core_model.specs.Pick.{PickedTables, busy, pick, picked, ranged}
+use Rattle.std.specs.Option.{option_map}
 use Rattle.core_model.specs.WellPicked.{IsWellPicked}
+use Rattle.job_model.specs.Compaction.{IsCompaction, cut_tables}
+use Rattle.st_order.specs.Columns.{Pairwise}
 
 -- a new core stands for a new store
 abbrev pub NewCoreRepresents : Type 0
@@ -69,3 +72,9 @@ RowsAreSorted = (entries : List Entry) → AreRows entries → IsSortedRun entri
 abbrev pub SortedAreRows : Type 0
 SortedAreRows = (entries : List Entry) → IsSortedRun entries → Each (λ entry. entry.number < 2 ^ 64) entries
     → AreRows entries
+
+-- picking looks at the file, the range and the charge of each table alone
+abbrev pub PickingSeesRanges : Type 0
+PickingSeesRanges = (running : List Job) (lowest_level : ℕ) (family : FamilyView)
+    → pick_of (λ table. table) (map busy running) lowest_level (map (λ tables. map ranged tables) family.levels)
+    ≡ option_map (λ chosen. (chosen.level, map ranged chosen.inputs)) (pick running lowest_level family)

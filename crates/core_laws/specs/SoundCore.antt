@@ -2,13 +2,14 @@
 use Rattle.std.specs.Prelude.{ℕ, Bool, ◌≡◌, ◌<◌, IsTrue, List}
 use Rattle.std.specs.List.{AllByRecursion as Each}
 use Rattle.st_model.specs.declared.state.ModelState.{ModelState}
-use Rattle.core_model.specs.Column.{Pairwise}
-use Rattle.core_model.specs.Event.{Event, CoreReply, FlushPicked, FlushInstalled, CompactPicked, CompactInstalled}
+use Rattle.core_model.specs.Event.{Event, FlushPicked, FlushInstalled, CompactPicked, CompactInstalled}
+use Rattle.core_model.specs.declared.reply.CoreReply.{CoreReply}
 use Rattle.core_model.specs.Relation.{Represents}
 use Rattle.core_model.specs.Picture.{FileEntries, Core, lowest_level, jobs_of, all_tables}
 use Rattle.core_model.specs.Run.{EventDoes, IsCoreStep, Refines}
 use Rattle.core_model.specs.RelationParts.{ForEach, LevelsApart, IsView, JobsRun, KeepsReads, AreNoted, NumbersWithin, ForBoth, ReadsAs, HasModelMarks, NumbersFall, HasKnownKeys}
 use Rattle.core_model.specs.Step.{IsNow}
+use Rattle.st_order.specs.Columns.{Pairwise}
 
 -- levels, jobs, tables and noted jobs are as they must be
 pub record IsSoundCore (core : Core) : Type 0 where

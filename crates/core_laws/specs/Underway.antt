@@ -8,15 +8,16 @@ use Rattle.st_model.specs.declared.state.ModelState.{ModelState}
 use Rattle.st_model.specs.Apply.{apply, apply_file}
 use Rattle.st_base.specs.Range.{meet}
 use Rattle.st_model.specs.Refusals.{MayRefuse, first_refused}
-use Rattle.core_model.specs.Column.{Pairwise}
 use Rattle.core_model.specs.Commit.{RequestFile, comes_behind, memory_key, family_at, request_files, plan_file, put_planned, taken_in_plan, plan, files_taken, behind_fit_refusal, number_refusal, level_refusal, commit_refusals, committed}
-use Rattle.core_model.specs.Event.{CoreReply, IngestCommitted, request_of_parts}
+use Rattle.core_model.specs.Event.{IngestCommitted, request_of_parts}
+use Rattle.core_model.specs.declared.reply.CoreReply.{CoreReply}
 use Rattle.core_model.specs.Relation.{Represents}
 use Rattle.core_model.specs.Level.{is_free_level}
 use Rattle.core_model.specs.Picture.{FileEntries, Turn, Core, lowest_level, level_at, table_range, all_tables}
 use Rattle.core_model.specs.Request.{IsStagedTable}
 use Rattle.core_model.specs.Run.{EventDoes, Refines}
 use Rattle.core_model.specs.Step.{HaveOtherFiles, IsNow, IsFlushedFor}
+use Rattle.st_order.specs.Columns.{Pairwise}
 
 -- a file that may be placed next
 pub record IsReadyToPlace (core : Core) (wanted : RequestFile) : Type 0 where

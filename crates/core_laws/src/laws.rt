@@ -1,7 +1,7 @@
 //! Each law is the contract of a function without a body: it is proved where that contract is.
 ghost use Rattle.core_model.specs.Run.{StepRefines, EveryRunRefines};
-ghost use Rattle.core_laws.specs.Laws.{NewCoreRepresents, EventDoesSomething, CompactionCanBeInstalled, FlushCanBeInstalled, FlushOutputCanBeInstalled, OutputsCanBeInstalled, PickedIsWellPicked, RowsAreSorted, SortedAreRows};
-ghost use Rattle.core_laws.specs.Claims.{PickedRuns, RunsAreClear, CompactionExists, CompactionIsOne, RulePasses, RuleIsFree, NoCauseNoEntry};
+ghost use Rattle.core_laws.specs.Laws.{NewCoreRepresents, EventDoesSomething, CompactionCanBeInstalled, FlushCanBeInstalled, FlushOutputCanBeInstalled, OutputsCanBeInstalled, PickedIsWellPicked, PickingSeesRanges, RowsAreSorted, SortedAreRows};
+ghost use Rattle.core_laws.specs.Claims.{PickedRuns, CompactionExists, CompactionIsOne};
 ghost use Rattle.core_laws.specs.Underway.{FileKeepsUnderway, CommitStands};
 ghost use Rattle.core_model.specs.Bounded.{CrashEndsBounded, NewCoreIsBounded, StepKeepsBounds, StepKeepsCapacity};
 ghost use Rattle.core_model.specs.StatePicture.{CoreRepresentsState, StateHasContents};
@@ -41,6 +41,11 @@ pub fn flush_can_be_installed()
     ensures some { FlushCanBeInstalled }
 {}
 
+/// What is picked of a family's tables is what is picked of the file, the range and the charge that each has.
+pub fn picking_sees_ranges()
+    ensures { PickingSeesRanges }
+{}
+
 /// What is picked is in place, near, clear and free.
 pub fn picked_is_well_picked()
     ensures { PickedIsWellPicked }
@@ -51,11 +56,6 @@ pub fn picked_runs()
     ensures { PickedRuns }
 {}
 
-/// No lower range meets a range in which tombstones may go.
-pub fn runs_are_clear()
-    ensures { RunsAreClear }
-{}
-
 /// Columns that don't rise have a compaction.
 pub fn compaction_exists()
     ensures { CompactionExists }
@@ -64,21 +64,6 @@ pub fn compaction_exists()
 /// Inputs have at most one compaction.
 pub fn compaction_is_one()
     ensures { CompactionIsOne }
-{}
-
-/// Where the rule gives a level above 0, no level down to it stops the walk.
-pub fn rule_passes()
-    ensures { RulePasses }
-{}
-
-/// Where the rule gives a level above 0, no table there meets the file.
-pub fn rule_is_free()
-    ensures { RuleIsFree }
-{}
-
-/// Without a cause no level has an entry in the file's range.
-pub fn no_cause_no_entry()
-    ensures { NoCauseNoEntry }
 {}
 
 /// A request under way stays so with each file that is placed.

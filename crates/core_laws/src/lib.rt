@@ -12,7 +12,6 @@ mod laws;
 pub use laws::{
     commit_stands, compaction_can_be_installed, compaction_exists, compaction_is_one,
     event_does_something, every_run_refines, file_keeps_underway, flush_can_be_installed,
-    new_core_represents, no_cause_no_entry, picked_is_well_picked, picked_runs, represents_state,
-    rows_are_sorted_runs, rule_is_free, rule_passes, runs_are_clear, step_keeps_bounds,
-    step_refines,
+    new_core_represents, picked_is_well_picked, picked_runs, picking_sees_ranges, represents_state,
+    rows_are_sorted_runs, step_keeps_bounds, step_refines,
 };

@@ -5,7 +5,8 @@ use Rattle.st_base.specs.declared.entry.Entry.{Entry}
 use Rattle.st_model.specs.State.{greatest_number, last_family_id, most_snapshots}
 use Rattle.st_model.specs.declared.state.ModelState.{ModelState}
 use Rattle.core_model.specs.Crash.{IsCrashed}
-use Rattle.core_model.specs.Event.{Event, CoreReply}
+use Rattle.core_model.specs.Event.{Event}
+use Rattle.core_model.specs.declared.reply.CoreReply.{CoreReply}
 use Rattle.core_model.specs.Picture.{FamilyView, Core, charge_of, memories}
 use Rattle.core_model.specs.Relation.{Represents}
 use Rattle.core_model.specs.RelationParts.{ForEach}

@@ -1,9 +1,7 @@
--- The events of the core and their answers.
+-- The events of the core, and the request that a turn has.
 use Rattle.std.specs.Prelude.{ℕ, Bool, List, [], ◌∷◌, ◌+◌, length, map}
 use Rattle.st_model.specs.declared.change.Batch.{Batch}
-use Rattle.st_model.specs.declared.refusal.Refusal.{Refusal}
 use Rattle.st_model.specs.declared.command.FileSeen.TheVariants as seen
-use Rattle.st_model.specs.declared.reply.Placed.{Placed}
 use Rattle.st_model.specs.Request.{Argument, files_from}
 use Rattle.core_model.specs.Picture.{FileEntries, Part}
 
@@ -24,19 +22,6 @@ pub data Event : Type 0 where
   IngestCommitted : Event
   TurnReturned : Event
   Crashed : ℕ → Event
-
--- what the core answers to an event
-pub data CoreReply : Type 0 where
-  BatchWritten : ℕ → ℕ → ℕ → CoreReply
-  SnapshotTaken : ℕ → ℕ → ℕ → CoreReply
-  At : ℕ → CoreReply
-  Done : CoreReply
-  JobPicked : ℕ → CoreReply
-  FamilyGone : CoreReply
-  TurnGiven : CoreReply
-  Received : ℕ → List Placed → CoreReply
-  NotNow : CoreReply
-  Refused : Refusal → CoreReply
 
 -- the request of the parts, as the model sees it
 abbrev pub argument_of_part : ℕ → Part → Argument

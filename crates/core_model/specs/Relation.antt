@@ -3,10 +3,10 @@ use Rattle.std.specs.Prelude.{◌≡◌, IsTrue, IfSome}
 use Rattle.std.specs.List.{AllByRecursion as Each}
 use Rattle.st_model.specs.declared.state.ModelState.{ModelState}
 use Rattle.st_model.specs.Sound.{IsSound}
-use Rattle.core_model.specs.Column.{Pairwise}
 use Rattle.core_model.specs.Picture.{Core, lowest_level, jobs_of, all_tables}
 use Rattle.core_model.specs.Request.{IsRequest, NamesThere}
 use Rattle.core_model.specs.RelationParts.{HaveSame, ForBoth, ForEach, ReadsAs, HasModelMarks, NumbersFall, NumbersWithin, LevelsApart, HasRanges, IsView, HasKnownKeys, HasWritten, JobsRun, KeepsReads, AreNoted, IsTurn}
+use Rattle.st_order.specs.Columns.{Pairwise}
 
 -- the core stands for the model's state
 pub record Represents (core : Core) (state : ModelState) : Type 0 where

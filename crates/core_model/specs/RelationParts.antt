@@ -3,8 +3,6 @@ use Rattle.std.specs.Prelude.{ℕ, ◌&&◌, ◌==◌, ◌≡◌, ◌≤◌, ◌
 use Rattle.std.specs.List.{list_any, AllByRecursion as Each}
 use Rattle.st_base.specs.Bytes.{below}
 use Rattle.st_base.specs.Map.{value_at}
-use Rattle.st_base.specs.Order.{in_order}
-use Rattle.st_base.specs.Rows.{FitsMark}
 use Rattle.st_base.specs.declared.entry.Entry.{Entry}
 use Rattle.st_model.specs.declared.state.ModelFamily.{ModelFamily}
 use Rattle.st_model.specs.declared.state.ModelState.{ModelState}
@@ -13,10 +11,14 @@ use Rattle.st_base.specs.Range.{has_key, is_in_range, meet}
 use Rattle.st_model.specs.Read.{read, mark_at, value_of}
 use Rattle.st_model.specs.State.{family_of, is_known}
 use Rattle.st_model.specs.Early.{read_numbers}
-use Rattle.core_model.specs.Column.{Pairwise, column, Falls}
 use Rattle.core_model.specs.Compaction.{without_last}
 use Rattle.core_model.specs.Pick.{joint_range}
 use Rattle.core_model.specs.Picture.{FileEntries, FamilyView, Job, Part, Turn, Core, lowest_level, level_at, runs_of, tables_in, memories, above, walk, find_mark, table_range, is_flush, is_input, live_numbers, all_tables}
+use Rattle.st_base.specs.Order.{in_order}
+use Rattle.st_base.specs.Rows.{FitsMark}
+use Rattle.st_order.specs.Columns.{Pairwise, column}
+use Rattle.job_model.specs.Column.{Falls}
+use Rattle.job_model.specs.Drops.{DontFall, AreApart}
 
 -- ---- sorted runs
 
@@ -181,7 +183,7 @@ IsRunning lowest_level family job =
 
 -- two jobs of a family: no input in common, one flush at most, nothing
 -- beside a compaction to the lowest level, outputs apart
-pub record AreApart (lowest_level : ℕ) (one other : Job) : Type 0 where
+pub record JobsApart (lowest_level : ℕ) (one other : Job) : Type 0 where
   pub files : Each (λ file. IsFalse (list_any (λ taken. taken == file) other.files)) one.files
   pub flush : IsFalse (is_flush one && is_flush other)
   pub lone : 1 ≤ one.level → 1 ≤ other.level → (one.level < lowest_level) × (other.level < lowest_level)
@@ -191,7 +193,7 @@ pub record AreApart (lowest_level : ℕ) (one other : Job) : Type 0 where
 pub record JobsRun (lowest_level : ℕ) (jobs : List Job) (family : FamilyView) : Type 0 where
   pub each : Each (IsRunning lowest_level family) jobs
   pub ranges : Each (λ job. job.range ≡ joint_range job.inputs) jobs
-  pub apart : Pairwise (AreApart lowest_level) jobs
+  pub apart : Pairwise (JobsApart lowest_level) jobs
 
 -- ---- 8: jobs keep reads
 
@@ -214,20 +216,26 @@ pub record KeepsReads (core : Core) (family : FamilyView) (job : Job) : Type 0 w
 abbrev pub FallOrZero : Entry → Entry → Type 0
 FallOrZero one other = (other.number < one.number) ⊎ ((one.number ≡ 0) × (other.number ≡ 0))
 
--- what a noted job keeps by itself, also where its family goes: the inputs' columns
--- fall, up to numbers 0; a flush has one memtable, with an entry
+-- What a noted job keeps by itself, also where its family goes: its output level is one of the seven; its inputs'
+-- columns fall, up to numbers 0; its live numbers don't fall, and its ranges of dropping stand by key; a flush has one
+-- memtable, with an entry.
 pub record HasOutputs (job : Job) : Type 0 where
+  pub level : job.level ≤ 6
   pub columns : (key : List ℕ) → Pairwise FallOrZero (column key job.inputs)
+  pub live : DontFall job.live
+  pub drops : AreApart job.drops
   pub flush : IsTrue (is_flush job) → (length job.inputs ≡ 1) × Each (λ entries. 1 ≤ length entries) job.inputs
       × (job.drops ≡ [])
 
--- no two noted jobs have one number; each names a family id that was given; each has outputs that can be installed
+-- No two noted jobs have one number; each names a family id that was given; each has outputs that can be installed.
+-- Live numbers don't fall along the snapshots, so that a job takes them down in order.
 pub record AreNoted (core : Core) : Type 0 where
   pub numbers : Pairwise (λ one other. one.number ≡ other.number → ⊥) core.jobs
   -- numbers are given upwards, up to the end of 64 bits; then the least that no noted job has
   pub made : core.jobs_made < 18446744073709551615 → Each (λ job. job.number ≤ core.jobs_made) core.jobs
   pub families : Each (λ job. job.family < core.next_family) core.jobs
   pub outputs : Each HasOutputs core.jobs
+  pub live : DontFall (live_numbers core)
 
 -- ---- 9: the turn
 

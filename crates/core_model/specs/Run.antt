@@ -16,7 +16,9 @@ use Rattle.st_model.specs.State.{greatest_number, new_store}
 use Rattle.core_model.specs.Commit.{outline, turn_refusals, commit_refusals, committed, plan, placed_files, files_taken}
 use Rattle.core_model.specs.Compaction.{with_flushed, with_compacted}
 use Rattle.core_model.specs.Crash.{IsCrashed, known_keys}
-use Rattle.core_model.specs.Event.{request_of_parts, Event, CoreReply, Write, Snap, Release, MakeFamily, DropFamily, Seal, FlushPicked, FlushInstalled, CompactPicked, CompactInstalled, JobGivenUp, TurnTaken, IngestCommitted, TurnReturned, Crashed, BatchWritten, SnapshotTaken, At, Done, JobPicked, FamilyGone, TurnGiven, Received, NotNow, Refused}
+use Rattle.core_model.specs.Event.{request_of_parts, Event, Write, Snap, Release, MakeFamily, DropFamily, Seal, FlushPicked, FlushInstalled, CompactPicked, CompactInstalled, JobGivenUp, TurnTaken, IngestCommitted, TurnReturned, Crashed}
+use Rattle.core_model.specs.declared.reply.CoreReply.{CoreReply}
+use Rattle.core_model.specs.declared.reply.CoreReply.TheVariants.{BatchWritten, SnapshotTaken, At, Done, JobPicked, FamilyGone, TurnGiven, Received, NotNow, Refused}
 use Rattle.core_model.specs.Relation.{Represents}
 use Rattle.core_model.specs.Picture.{Part, Core, new_view}
 use Rattle.core_model.specs.Step.{IsNow, RefusedOr, Notes, Installs, with_batch, with_snapshot, without_snapshot, with_family, without_family, with_sealed, with_turn, without_turn, flush_job, compact_job, noted_job, without_job}

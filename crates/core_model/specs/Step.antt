@@ -11,15 +11,17 @@ use Rattle.st_model.specs.declared.change.Op.{Op}
 use Rattle.st_model.specs.declared.refusal.Refusal.{Refusal}
 use Rattle.st_model.specs.Answer.{is_live}
 use Rattle.st_model.specs.Apply.{op_family, op_key, op_mark, op_entry, write_charge}
-use Rattle.st_base.specs.Range.{meet}
-use Rattle.core_model.specs.Column.{Pairwise}
+use Rattle.st_base.specs.Range.{entries_charge, meet}
 use Rattle.core_model.specs.Commit.{outline, comes_behind, memory_key}
-use Rattle.core_model.specs.Compaction.{IsCompaction}
-use Rattle.core_model.specs.Event.{Event, CoreReply, Write, Snap, Release, MakeFamily, DropFamily, Seal, FlushPicked, FlushInstalled, CompactPicked, CompactInstalled, JobGivenUp, TurnTaken, IngestCommitted, TurnReturned, Crashed, Done, JobPicked, FamilyGone, Refused}
+use Rattle.core_model.specs.Event.{Event, Write, Snap, Release, MakeFamily, DropFamily, Seal, FlushPicked, FlushInstalled, CompactPicked, CompactInstalled, JobGivenUp, TurnTaken, IngestCommitted, TurnReturned, Crashed}
+use Rattle.core_model.specs.declared.reply.CoreReply.{CoreReply}
+use Rattle.core_model.specs.declared.reply.CoreReply.TheVariants.{Done, JobPicked, FamilyGone, Refused}
 use Rattle.core_model.specs.Pick.{picked, compaction_of, flush_of, with_job}
-use Rattle.core_model.specs.Picture.{FileEntries, FamilyView, Job, Part, Core, level_at, memories, charge_of, table_range, new_view, is_flush, jobs_of, all_tables}
+use Rattle.core_model.specs.Picture.{FileEntries, FamilyView, Job, Part, Core, level_at, memories, table_range, new_view, is_flush, jobs_of, all_tables}
 use Rattle.core_model.specs.Request.{IsRequest}
 use Rattle.core_model.specs.RelationParts.{files_in_parts, FitsSizes}
+use Rattle.st_order.specs.Columns.{Pairwise}
+use Rattle.job_model.specs.Compaction.{IsCompaction}
 
 -- ---- writes
 
@@ -56,10 +58,11 @@ pub record IsWriteWithinLimits (ops : List Op) : Type 0 where
   -- what the types of a key and a value keep
   pub fits : Each (λ op. FitsSizes (op_entry 0 op)) ops
 
--- a memtable at its limit, 4 sealed ones, or 20 tables in level 0
+-- a memtable at its limit, 4 sealed ones, or 20 tables in level 0; charges are counted as far as 64 bits hold them
 abbrev pub is_due : FamilyView → Bool
 is_due family =
-    nat_le 4194304 (charge_of family.mem) || nat_le 4 (length family.sealed) || nat_le 20 (length (level_at family 0))
+    nat_le 4194304 (entries_charge family.mem) || nat_le 4 (length family.sealed)
+    || nat_le 20 (length (level_at family 0))
 
 -- whether the family of this name has work that comes first
 abbrev pub is_due_at : Core → List ℕ → Bool

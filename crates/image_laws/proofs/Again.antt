@@ -8,10 +8,10 @@ use Rattle.st_base.specs.declared.entry.Mark.{Mark}
 use Rattle.st_base.specs.declared.entry.KeyRange.{KeyRange}
 use Rattle.base_laws.proofs.Keys.{below_not}
 use Rattle.base_laws.proofs.Lists.{append_one, each_as, each_join}
-use Rattle.core_model.specs.Column.{Pairwise}
 use Rattle.st_model.specs.declared.state.ModelFamily.{ModelFamily}
 use Rattle.st_model.specs.Contents.{opened_family, opened_families, is_kept, kept_marks, newest_marks, as_entry, put_range, sorted_ranges, contents_of_family}
 use Rattle.store_image.specs.Claims.{OpenedHasContents}
+use Rattle.st_order.specs.Columns.{Pairwise}
 
 filter_twice : {X : Type 0} (p : X → Bool) (xs : List X) → filter p (filter p xs) ≡ filter p xs
 filter_twice p [] = refl

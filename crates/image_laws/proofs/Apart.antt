@@ -13,11 +13,11 @@ use Rattle.st_base.specs.declared.entry.Entry.{Entry}
 use Rattle.st_base.specs.Range.{meet, key_at_front, key_at_end}
 use Rattle.base_laws.proofs.Keys.{at_most_itself, at_most_trans, below_at_most, below_not, comes_before_key}
 use Rattle.base_laws.proofs.Lists.{each_as, none_any}
-use Rattle.core_model.specs.Column.{Pairwise}
 use Rattle.core_model.specs.Picture.{FileEntries, put_by_key, table_range}
 use Rattle.core_model.specs.RelationParts.{IsLevel, IsSortedRun}
 use Rattle.store_image.specs.Opens.{meets_other, image_files_meeting}
 use Rattle.store_image.specs.Parts.{by_key}
+use Rattle.st_order.specs.Columns.{Pairwise}
 
 -- ---- byte strings
 

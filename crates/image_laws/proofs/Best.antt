@@ -9,14 +9,15 @@ use Rattle.st_base.specs.declared.entry.Entry.{Entry}
 use Rattle.base_laws.proofs.Lists.{each_as, each_filter, each_join}
 use Rattle.core_laws.proofs.LevelLists.{map_append}
 use Rattle.core_laws.proofs.Lists.{filter_join, pairs_as, pairs_filter, pairs_join}
-use Rattle.core_model.specs.Column.{Pairwise, column, of_key, first_at, found_at, Falls}
 use Rattle.core_model.specs.Picture.{FileEntries, FamilyView, runs_of, tables_in, memories, walk, find_mark, above, level_at}
 use Rattle.core_model.specs.RelationParts.{NumbersFall, NumbersWithin}
+use Rattle.job_model.specs.Column.{Falls, first_at, found_at}
 use Rattle.store_image.specs.Image.{Ranked, ranked, ranked_levels, all_ranked, is_better, better, best, ranked_of, image_mark}
 use Rattle.manifest_edits.specs.Edits.{Placement}
 use Rattle.store_image.specs.Parts.{ImageParts, image_levels, level_of, table_at, placed_at}
 use Rattle.store_image.specs.Opens.{OpenedImageFamily, image_entries_of}
 use Rattle.image_laws.proofs.Lists.{filter_map, flat_append, column_joined}
+use Rattle.st_order.specs.Columns.{Pairwise, column, of_key}
 
 abbrev entry_in : Ranked → Entry
 entry_in one = one.entry

@@ -9,13 +9,13 @@ use Rattle.st_base.specs.Range.{meet}
 use Rattle.base_laws.proofs.Keys.{below_not}
 use Rattle.base_laws.proofs.Lists.{any_none, append_one, each_as, each_back, each_front, each_join, filter_none}
 use Rattle.core_laws.proofs.Lists.{filter_join, pairs_across, pairs_as, pairs_back, pairs_front, pairs_join}
-use Rattle.core_model.specs.Column.{Pairwise, column, of_key}
 use Rattle.core_model.specs.Picture.{FileEntries, FamilyView, runs_of, tables_in, table_range, memories, above, level_at}
 use Rattle.core_model.specs.RelationParts.{IsLevel, LevelsApart, NumbersFall, NumbersWithin}
 use Rattle.store_image.specs.Opens.{OpenedImageFamily, image_entries_of, may_follow, entries_fall, unfallen, unfallen_in, upper_tables, lower_tables, meets_other, image_files_meeting, image_files_meeting_in}
 use Rattle.image_laws.proofs.Lists.{flat_append, column_joined, columns_pairs}
 use Rattle.st_base.proofs.Same.{same_sym}
 use Rattle.image_laws.proofs.Best.{HasColumns, column_append}
+use Rattle.st_order.specs.Columns.{Pairwise, column, of_key}
 
 -- ---- levels: no two tables meet
 

@@ -16,11 +16,12 @@ use Rattle.st_base.specs.Range.{has_key, under_number}
 use Rattle.st_model.specs.Refusals.{sure_cause}
 use Rattle.base_laws.proofs.Keys.{below_trans, less_of}
 use Rattle.base_laws.proofs.Lists.{each_join}
-use Rattle.core_model.specs.Column.{Pairwise}
 use Rattle.core_model.specs.Commit.{RequestFile, Planned, outline, comes_behind, family_at, request_files_of, request_files_after, request_files, plan_file, plan_behind, plan_by_rule, put_planned, plan_from, plan}
 use Rattle.core_model.specs.Event.{argument_of_part}
-use Rattle.core_model.specs.Level.{is_free_level, last_free, walk_end, first_stop, level_rule}
-use Rattle.core_model.specs.Picture.{FileEntries, FamilyView, Job, Part, Core, lowest_level, running_of, table_range}
+use Rattle.core_model.specs.Level.{level_rule}
+use Rattle.core_model.specs.Pick.{busy}
+use Rattle.job_laws.proofs.Rules.{walk_within}
+use Rattle.core_model.specs.Picture.{FileEntries, FamilyView, Job, Part, Core, lowest_level, runs_of, running_of, table_range}
 use Rattle.core_model.specs.Request.{IsStagedTable}
 use Rattle.core_model.specs.RelationParts.{files_in_parts}
 use Rattle.core_laws.specs.Underway.{files_left}
@@ -33,10 +34,9 @@ use Rattle.image_laws.proofs.Committed.{AreEdits}
 use Rattle.image_laws.proofs.RightEdits.{IsNewTable, FilesDiffer, tables_added, last_ends}
 use Rattle.image_laws.proofs.StandsNames.{FamiliesApart, names_family}
 use Rattle.manifest_edits.specs.Logs.{LogOp}
-use Rattle.manifest_edits.specs.CallEdits.{add_table_edit}
-use Rattle.manifest_edits.specs.CallEdits.{with_files_named}
-use Rattle.manifest_edits.specs.CallEdits.{commit_edits}
+use Rattle.manifest_edits.specs.CallEdits.{add_table_edit, with_files_named, commit_edits}
 use Rattle.store_image.specs.Calls.{file_edits, IsNewFile}
+use Rattle.st_order.specs.Columns.{Pairwise}
 
 -- ---- what a plan has: of each file of the request, its family and a level
 
@@ -44,25 +44,6 @@ pub record IsPlan (cs : List (List ℕ × FamilyView)) (planned : Planned) : Typ
   pub family : FamilyView
   pub there : value_at cs planned.wanted.part.family ≡ Some family
   pub small : planned.level ≤ 6
-
-free_small : (end : ℕ) (range : KeyRange) (found n : ℕ) (levels : List (List FileEntries)) → found ≤ 6 → end ≤ 7 → last_free end range found n levels ≤ 6
-free_small end range found n [] le top = le
-free_small end range found n (tables ∷ levels) le top =
-    go (nat_lt n end) refl (is_free_level range tables) (λ n le. free_small end range n (n + 1) levels le top) (λ k. free_small end range found k levels le top)
-  where
-    go : (b : Bool) → nat_lt n end ≡ b → (c : Bool) → ((n : ℕ) → n ≤ 6 → last_free end range n (n + 1) levels ≤ 6) → ((k : ℕ) → last_free end range found k levels ≤ 6)
-        → last_free end range (cond (b && c) n found) (n + 1) levels ≤ 6
-    go true e true here other = here n (let less = ltb-true n end e in omega arith)
-    go true e false here other = other (n + 1)
-    go false e c here other = other (n + 1)
-
-end_small : (bottom : ℕ) (stop : Option (ℕ × Why)) → bottom ≤ 6 → walk_end bottom stop ≤ 7
-end_small bottom None le = omega arith
-end_small bottom (Some stop) le = go (nat_lt stop.0 (bottom + 1)) refl
-  where
-    go : (b : Bool) → nat_lt stop.0 (bottom + 1) ≡ b → cond b stop.0 (bottom + 1) ≤ 7
-    go true e = let less = ltb-true stop.0 (bottom + 1) e in omega arith
-    go false e = omega arith
 
 lowest_small : (core : Core) → lowest_level core ≤ 6
 lowest_small core = go core.behind
@@ -72,7 +53,7 @@ lowest_small core = go core.behind
     go false = omega arith
 
 rule_small : (levels : List (List FileEntries)) (running : List Job) (range : KeyRange) (bottom : ℕ) → bottom ≤ 6 → (level_rule levels running range bottom).level ≤ 6
-rule_small levels running range bottom le = free_small (walk_end bottom (first_stop running 0 range levels)) range 0 0 levels (omega arith) (end_small bottom (first_stop running 0 range levels) le)
+rule_small levels running range bottom le = let within = walk_within (map runs_of levels) (map busy running) range bottom in omega (arith, within)
 
 abbrev pub IsOf : List (List ℕ × FamilyView) → (FileEntries → Type 0) → Planned → Type 0
 IsOf cs P planned = IsPlan cs planned × P planned.wanted.table

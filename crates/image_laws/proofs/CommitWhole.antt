@@ -5,7 +5,6 @@ use Rattle.std.specs.List.{AllByRecursion as Each}
 use Rattle.st_base.specs.Map.{value_at}
 use Rattle.st_model.specs.declared.state.ModelState.{ModelState}
 use Rattle.base_laws.proofs.Lists.{each_as, each_front}
-use Rattle.core_model.specs.Column.{Pairwise}
 use Rattle.core_model.specs.Commit.{Planned, plan, committed}
 use Rattle.core_model.specs.Relation.{Represents}
 use Rattle.core_model.specs.Picture.{FamilyView, FileEntries, Core, Turn, all_tables}
@@ -24,8 +23,8 @@ use Rattle.image_laws.proofs.StandsNames.{families_apart}
 use Rattle.image_laws.proofs.StepOpens.{step_begun}
 use Rattle.manifest_edits.specs.Groups.{IsGroup}
 use Rattle.manifest_edits.specs.CallEdits.{commit_edits}
-use Rattle.store_image.specs.Calls.{IsImageOf, files_with}
-use Rattle.store_image.specs.Calls.{file_edits, commit_files, commit_group, commit_named, IsCommittingRequest}
+use Rattle.store_image.specs.Calls.{IsImageOf, files_with, file_edits, commit_files, commit_group, commit_named, IsCommittingRequest}
+use Rattle.st_order.specs.Columns.{Pairwise}
 
 pub parts_there : (core : Core) (state : ModelState) (turn : Turn) → Represents core state → core.turn ≡ Some turn → Each (λ part. is_some (value_at core.families part.family) ≡ true) turn.parts
 parts_there core state turn stands e = there_each core turn.parts (turn_facts core state turn stands e).1.families

@@ -8,7 +8,6 @@ use Rattle.st_base.specs.Range.{key_at_front}
 use Rattle.st_model.specs.declared.state.ModelState.{ModelState}
 use Rattle.base_laws.proofs.Lists.{each_as, each_filter, each_front, each_join, each_passed}
 use Rattle.core_laws.proofs.Lists.{pairs_filter}
-use Rattle.core_model.specs.Column.{Pairwise}
 use Rattle.core_model.specs.Relation.{Represents}
 use Rattle.core_model.specs.Picture.{FileEntries, FamilyView, Job, Core, lowest_level, jobs_of, is_input, tables_in, put_by_key}
 use Rattle.core_model.specs.RelationParts.{IsRunning, IsCompacting, JobsRun, input_tables}
@@ -18,11 +17,9 @@ use Rattle.store_image.specs.Parts.{ImageParts, table_at, placed_at, by_key, lev
 use Rattle.store_image.specs.Tie.{IsTiedFamily}
 use Rattle.image_laws.proofs.RightEdits.{IsNewTable, FilesDiffer, without_tables, tables_added, tables_dropped, dropped_absent, ids_kept, changes_one, last_ends}
 use Rattle.manifest_edits.specs.Logs.{LogOp}
-use Rattle.manifest_edits.specs.CallEdits.{add_table_edit}
-use Rattle.store_image.specs.Calls.{FilesAllDiffer}
-use Rattle.manifest_edits.specs.CallEdits.{with_files_named}
-use Rattle.manifest_edits.specs.CallEdits.{placed_for_family, compact_edits}
-use Rattle.store_image.specs.Calls.{compacted_named}
+use Rattle.manifest_edits.specs.CallEdits.{add_table_edit, with_files_named, placed_for_family, compact_edits}
+use Rattle.store_image.specs.Calls.{FilesAllDiffer, compacted_named}
+use Rattle.st_order.specs.Columns.{Pairwise}
 
 -- ---- a job that is noted runs
 

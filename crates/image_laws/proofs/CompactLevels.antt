@@ -5,7 +5,6 @@ use Rattle.std.specs.List.{AllByRecursion as Each, AllZip}
 use Rattle.st_base.specs.Bytes.{at_most}
 use Rattle.st_model.specs.declared.state.ModelState.{ModelState}
 use Rattle.base_laws.proofs.Lists.{each_back, each_front}
-use Rattle.core_model.specs.Column.{Pairwise}
 use Rattle.core_model.specs.Relation.{Represents}
 use Rattle.core_model.specs.Picture.{FileEntries, FamilyView, Core, memories, runs_of, tables_in, table_range}
 use Rattle.core_model.specs.RelationParts.{IsLevel, IsView, LevelsApart, IsSortedRun}
@@ -15,6 +14,7 @@ use Rattle.store_image.specs.Tie.{IsTiedFamily}
 use Rattle.image_laws.proofs.Apart.{range_ordered, level_rises}
 use Rattle.image_laws.proofs.Levels.{IsBelow}
 use Rattle.manifest_edits.specs.Logs.{LogOp}
+use Rattle.st_order.specs.Columns.{Pairwise}
 
 abbrev pub IsRight : FileEntries → Type 0
 IsRight table = at_most (table_range table).first (table_range table).last ≡ true

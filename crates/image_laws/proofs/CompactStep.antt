@@ -7,7 +7,6 @@ use Rattle.std.proofs.lemmas.Bool.{false≢true, eqb-true, eqb-false, le-leb}
 use Rattle.st_base.specs.declared.entry.Entry.{Entry}
 use Rattle.st_model.specs.declared.state.ModelState.{ModelState}
 use Rattle.base_laws.proofs.Lists.{each_as}
-use Rattle.core_model.specs.Column.{Pairwise}
 use Rattle.core_model.specs.Compaction.{with_compacted}
 use Rattle.core_model.specs.Relation.{Represents}
 use Rattle.core_model.specs.Picture.{FileEntries, FamilyView, Job, Core, lowest_level}
@@ -29,9 +28,8 @@ use Rattle.image_laws.proofs.Tables.{IsOutput}
 use Rattle.manifest_edits.specs.Logs.{LogOp}
 use Rattle.manifest_edits.specs.Groups.{IsGroup}
 use Rattle.manifest_edits.specs.CallEdits.{compact_edits}
-use Rattle.store_image.specs.Calls.{IsImageOf, files_with}
-use Rattle.store_image.specs.Calls.{IsNewFile}
-use Rattle.store_image.specs.Calls.{output_placements, compact_group, compact_named, IsInstallingCompaction}
+use Rattle.store_image.specs.Calls.{IsImageOf, files_with, IsNewFile, output_placements, compact_group, compact_named, IsInstallingCompaction}
+use Rattle.st_order.specs.Columns.{Pairwise}
 
 not_flush : (level : ℕ) → (level == 0) ≡ false → 1 ≤ level
 not_flush level e = let no = eqb-false level 0 e in omega (arith, no)

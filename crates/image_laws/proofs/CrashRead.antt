@@ -14,9 +14,9 @@ use Rattle.st_base.proofs.Same.{same_self}
 use Rattle.st_model.specs.Contents.{is_kept}
 use Rattle.st_model.specs.declared.state.ModelState.{ModelState}
 use Rattle.core_laws.proofs.ToldByColumns.{column_joined, maps_are_one_of, marks_set}
-use Rattle.core_model.specs.Column.{of_key, column}
 use Rattle.core_model.specs.Crash.{newest_of, opened_charge, IsFlushedByCrash, rank, Reopens, IsCrashed}
-use Rattle.core_model.specs.Event.{Crashed, Done}
+use Rattle.core_model.specs.Event.{Crashed}
+use Rattle.core_model.specs.declared.reply.CoreReply.TheVariants.{Done}
 use Rattle.core_model.specs.Picture.{Core, FamilyView, FileEntries, memories, runs_of, tables_in, walk}
 use Rattle.core_model.specs.Relation.{Represents}
 use Rattle.core_model.specs.RelationParts.{IsView}
@@ -34,6 +34,7 @@ use Rattle.image_laws.proofs.Opening.{tied_opens}
 use Rattle.image_laws.proofs.Recovered.{counted_falls, mem_column}
 use Rattle.image_laws.proofs.RecoveredReads.{filter_reverse}
 use Rattle.image_laws.proofs.Reopen.{column_empty, either, run_empty}
+use Rattle.st_order.specs.Columns.{of_key, column}
 
 -- ---- two families that a crash leaves the same
 

@@ -13,10 +13,10 @@ use Rattle.st_base.specs.Map.{set_at}
 use Rattle.base_laws.proofs.Keys.{below_trans}
 use Rattle.base_laws.proofs.Lists.{each_as, each_back, each_filter, each_front, each_join}
 use Rattle.core_laws.proofs.Lists.{pairs_across, pairs_back, pairs_filter, pairs_front, pairs_join}
-use Rattle.core_model.specs.Column.{Pairwise}
 use Rattle.manifest_edits.specs.Edits.{Placement, Edit, AddFamily, DropFamily, AddTable, DropTable, Flushed, Last, AddLog, DropLog, NamedFamily, Named, tables_named, has_id, has_table, is_file, changed_named, with_table, without_table, with_flushed_number, is_right, edited, edited_all, may_place}
 use Rattle.store_image.specs.Recover.{IsNamed, EditsKeepNamed}
 use Rattle.image_laws.proofs.Added.{changed_tables, set_tables}
+use Rattle.st_order.specs.Columns.{Pairwise}
 
 -- ---- pairs
 

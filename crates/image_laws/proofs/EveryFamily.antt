@@ -14,7 +14,6 @@ use Rattle.st_base.proofs.Same.{same_true}
 use Rattle.base_laws.proofs.Keys.{at_most_itself, at_most_trans, below_not, comes_before_key, less_of}
 use Rattle.base_laws.proofs.Lists.{each_as, each_filter, each_join, each_map, filter_none}
 use Rattle.core_laws.proofs.Lists.{pairs_filter, pairs_join}
-use Rattle.core_model.specs.Column.{Pairwise, column, of_key}
 use Rattle.core_model.specs.Picture.{FileEntries, runs_of, tables_in, table_range, put_by_key}
 use Rattle.core_model.specs.RelationParts.{IsLevel, HasEntry, IsSortedRun, FitsSizes}
 use Rattle.core_model.specs.Step.{put_in_memory}
@@ -27,6 +26,7 @@ use Rattle.image_laws.proofs.Apart.{behind_end}
 use Rattle.image_laws.proofs.Recovered.{FallsTo, each_mem}
 use Rattle.image_laws.proofs.RecoveredReads.{same_join}
 use Rattle.image_laws.proofs.EveryEdits.{OtherFile, pairs_of_all}
+use Rattle.st_order.specs.Columns.{Pairwise, column, of_key}
 
 -- ---- entries in order
 

@@ -15,7 +15,6 @@ use Rattle.st_base.specs.Range.{keys_of}
 use Rattle.st_model.specs.Sound.{KeysRise}
 use Rattle.base_laws.proofs.Lists.{each_as}
 use Rattle.core_laws.proofs.LevelLists.{map_append}
-use Rattle.core_model.specs.Column.{Pairwise}
 use Rattle.core_model.specs.Crash.{known_keys}
 use Rattle.core_model.specs.Relation.{Represents}
 use Rattle.core_model.specs.Picture.{FamilyView, Core, FileEntries, runs_of, tables_in, walk}
@@ -25,6 +24,7 @@ use Rattle.store_image.specs.Image.{image_known_keys, image_keys}
 use Rattle.store_image.specs.Opens.{OpenedImageFamily, OpenedImage, image_entries_of}
 use Rattle.store_image.specs.Recover.{mem_of, recovered_view, recovered_core}
 use Rattle.image_laws.proofs.EveryEdits.{pairs_of_all, all_of_pairs}
+use Rattle.st_order.specs.Columns.{Pairwise}
 
 -- the same keys, in any order
 abbrev pub SameKeys : List (List ℕ) → List (List ℕ) → Type 0

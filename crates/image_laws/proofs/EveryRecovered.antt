@@ -9,7 +9,6 @@ use Rattle.st_base.specs.Map.{value_at}
 use Rattle.st_base.specs.declared.entry.Entry.{Entry}
 use Rattle.base_laws.proofs.Lists.{append_none, each_as, each_back, each_filter, each_front, each_join, each_map}
 use Rattle.core_laws.proofs.Lists.{pairs_across, pairs_back, pairs_front, pairs_join}
-use Rattle.core_model.specs.Column.{Pairwise}
 use Rattle.core_model.specs.Picture.{FamilyView, Core, FileEntries, runs_of, tables_in, find_mark, lowest_level}
 use Rattle.core_model.specs.RelationParts.{NumbersFall, NumbersWithin, LevelsApart, HasRanges, HasKnownKeys, HasWritten, IsView, JobsRun, KeepsReads, AreNoted, ids_of, model_ids, IsSortedRun}
 use Rattle.st_model.specs.declared.state.ModelFamily.{ModelFamily}
@@ -29,6 +28,7 @@ use Rattle.image_laws.proofs.EveryEdits.{NamedPair, OtherFile, each_get, pairs_o
 use Rattle.image_laws.proofs.EveryFamily.{FileApart, levels_each, levels_pairs}
 use Rattle.image_laws.proofs.EveryStands.{StandsFor, IsWholeFamily, family_stands, family_contents}
 use Rattle.manifest_edits.specs.Logs.{LogOp, log_op_entry}
+use Rattle.st_order.specs.Columns.{Pairwise}
 
 -- ---- operations are within the last number
 
@@ -210,7 +210,7 @@ only_now : (last number : ℕ) → Contains (last ∷ []) number → last ≡ nu
 only_now last number there = subst (λ n. last ≡ n) there.2 (each_get (λ n. last ≡ n) (last ∷ []) (refl, tt) there.0 number there.1)
 
 none_noted : (capacity : ℕ) (opened : OpenedImage) → AreNoted (recovered_core capacity opened)
-none_noted capacity opened = record { numbers = tt; made = λ few. tt; families = tt; outputs = tt }
+none_noted capacity opened = record { numbers = tt; made = λ few. tt; families = tt; outputs = tt; live = tt }
 
 no_jobs : (capacity : ℕ) (opened : OpenedImage) (families : List (List ℕ × FamilyView)) → Each (λ named. JobsRun (lowest_level (recovered_core capacity opened)) [] named.1) families
 no_jobs capacity opened [] = tt

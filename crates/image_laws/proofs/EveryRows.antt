@@ -1,11 +1,11 @@
 -- An opening that is met: an image with a table, and the image that the opening leaves.
-use Rattle.std.specs.Prelude.{ℕ, Bool, true, false, ◌≡◌, refl, List, [], ◌∷◌, Option, Some, None, Ok, ◌==◌}
+use Rattle.std.specs.Prelude.{ℕ, Bool, true, false, ◌≡◌, refl, List, [], ◌∷◌, Option, Some, None, Ok, ◌==◌, IsTrue}
 use Rattle.std.proofs.Common.{inl, arith}
-use Rattle.std.specs.Prelude.{IsTrue}
 use Rattle.st_base.specs.Bytes.{default_family, below}
 use Rattle.st_base.specs.declared.entry.Entry.{Entry}
 use Rattle.st_base.specs.declared.entry.Mark.TheVariants.{Put}
-use Rattle.core_model.specs.Event.{Crashed, Done}
+use Rattle.core_model.specs.Event.{Crashed}
+use Rattle.core_model.specs.declared.reply.CoreReply.TheVariants.{Done}
 use Rattle.core_model.specs.Picture.{Core, FileEntries}
 use Rattle.core_model.specs.Run.{IsCoreStep}
 use Rattle.manifest_edits.specs.Edits.{Edit, AddFamily, AddTable, Flushed, Last, AddLog, Placement, Named}

@@ -14,7 +14,6 @@ use Rattle.st_base.specs.declared.entry.KeyRange.{KeyRange}
 use Rattle.st_base.proofs.Same.{same_self}
 use Rattle.base_laws.proofs.Lists.{any_left, any_right, append_none, each_as, each_back, each_front, each_join, each_map, map_each}
 use Rattle.core_laws.proofs.Lists.{pairs_as}
-use Rattle.core_model.specs.Column.{Pairwise, of_key}
 use Rattle.core_model.specs.Crash.{newest_of}
 use Rattle.core_model.specs.Picture.{FamilyView, FileEntries, runs_of, tables_in, table_range, find_mark}
 use Rattle.core_model.specs.RelationParts.{NumbersFall, NumbersWithin, LevelsApart, IsLevel, HasRanges, HasEntry, IsView, HasKnownKeys, HasWritten, IsSortedRun}
@@ -40,6 +39,7 @@ use Rattle.image_laws.proofs.Same.{marks_same}
 use Rattle.image_laws.proofs.EveryEdits.{OtherFile, all_of_pairs}
 use Rattle.image_laws.proofs.EveryFamily.{FileApart, levels_each, raw_pairs, pairs_mapped, table_filled, level_falls, mem_rows}
 use Rattle.manifest_edits.specs.Logs.{LogOp}
+use Rattle.st_order.specs.Columns.{Pairwise, of_key}
 
 -- ---- what the state has of one family
 

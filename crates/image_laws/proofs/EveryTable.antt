@@ -1,14 +1,12 @@
 -- The table of an opening, where memtables can be joined in one way; and an opening of an image with a counted operation.
-use Rattle.std.specs.Prelude.{ℕ, Bool, true, false, ◌≡◌, refl, List, [], ◌∷◌, Option, Some, None, Ok, ◌==◌}
+use Rattle.std.specs.Prelude.{ℕ, Bool, true, false, ◌≡◌, refl, List, [], ◌∷◌, Option, Some, None, Ok, ◌==◌, IsTrue}
 use Rattle.std.proofs.Common.{inl, arith, sym, ap, ◌∙◌, append-nil}
-use Rattle.std.specs.Prelude.{IsTrue}
 use Rattle.std.specs.List.{AllByRecursion as Each}
 use Rattle.st_base.specs.Bytes.{default_family, below}
 use Rattle.st_base.specs.declared.entry.Entry.{Entry}
 use Rattle.st_base.specs.declared.entry.Mark.TheVariants.{Put}
-use Rattle.core_model.specs.Column.{of_key}
-use Rattle.core_model.specs.Compaction.{IsJoined}
-use Rattle.core_model.specs.Event.{Crashed, Done}
+use Rattle.core_model.specs.Event.{Crashed}
+use Rattle.core_model.specs.declared.reply.CoreReply.TheVariants.{Done}
 use Rattle.core_model.specs.Crash.{IsFlushedByCrash}
 use Rattle.core_model.specs.Picture.{Core, FamilyView, FileEntries}
 use Rattle.core_model.specs.Run.{IsCoreStep}
@@ -21,6 +19,7 @@ use Rattle.store_image.specs.Tie.{EngineFiles}
 use Rattle.image_laws.proofs.EveryEdits.{NamedPair, all_of_pairs}
 use Rattle.image_laws.proofs.OpeningHolds.{opening_holds, joined_is_one}
 use Rattle.manifest_edits.specs.Logs.{LogReading, LogFound, LogOp, records_in, log_op_entry}
+use Rattle.st_order.specs.Columns.{of_key, IsJoined}
 use Rattle.core_model.specs.RelationParts.{IsSortedRun, FitsSizes}
 
 pub table_is_new : TableIsNew

@@ -10,7 +10,6 @@ use Rattle.st_base.specs.Bytes.{same, bytes_cmp}
 use Rattle.st_base.specs.Map.{set_at, without}
 use Rattle.st_base.specs.declared.entry.Entry.{Entry}
 use Rattle.base_laws.proofs.Lists.{each_as, filter_none}
-use Rattle.core_model.specs.Column.{of_key}
 use Rattle.core_model.specs.Picture.{Core, FamilyView, new_view}
 use Rattle.core_model.specs.Step.{with_family, without_family}
 use Rattle.manifest_edits.specs.Edits.{NamedFamily, Named, put_number}
@@ -19,6 +18,7 @@ use Rattle.store_image.specs.Parts.{ImageParts, log_ops_of, counts_for}
 use Rattle.store_image.specs.Tie.{HoldsNamed, IsTiedFamily}
 use Rattle.image_laws.proofs.Logs.{IsWhole, whole_of, none_of}
 use Rattle.manifest_edits.specs.Logs.{LogFound, LogOp, log_op_entry, records_in}
+use Rattle.st_order.specs.Columns.{of_key}
 
 -- the last number may have been read anew
 family_last : (parts : ImageParts) (ops : List LogOp) (last : ℕ) (here : List ℕ × FamilyView) (there : List ℕ × NamedFamily) (name other : List ℕ) → other ≡ name → IsTiedFamily parts ops last here there → IsTiedFamily parts ops last (name, here.1) (other, there.1)

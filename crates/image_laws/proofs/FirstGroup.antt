@@ -9,18 +9,14 @@ use Rattle.std.proofs.lemmas.List.{reverse-append, reverse-reverse}
 use Rattle.st_base.specs.Bytes.{bytes_cmp}
 use Rattle.st_base.specs.Map.{value_at, set_at}
 use Rattle.base_laws.proofs.Lists.{each_join}
-use Rattle.core_model.specs.Column.{Pairwise}
 use Rattle.manifest_edits.specs.Edits.{Placement, Edit, AddFamily, Flushed, AddLog, Last, NamedFamily, Named, named_none, manifest_reading_none, read_records, changed_named, has_id, is_file, is_last_edit, ends_with_last, edited_all, with_table, with_flushed_number, may_place}
 use Rattle.manifest_edits.proofs.Cut.{cut_group}
 use Rattle.image_laws.proofs.RightEdits.{IsNewTable, FilesDiffer, one_right, any_append, tables_added, last_ends}
-use Rattle.manifest_edits.specs.Groups.{IsGroup}
-use Rattle.manifest_edits.specs.Groups.{group_of_edits}
+use Rattle.manifest_edits.specs.Groups.{IsGroup, group_of_edits}
 use Rattle.manifest_edits.proofs.Reading.{read_whole}
-use Rattle.manifest_edits.specs.CallEdits.{add_table_edit}
-use Rattle.manifest_edits.specs.CallEdits.{with_files_named}
-use Rattle.manifest_edits.specs.CallEdits.{placed_for_family}
-use Rattle.manifest_edits.specs.CallEdits.{family_edits, families_edits, first_edits}
+use Rattle.manifest_edits.specs.CallEdits.{add_table_edit, with_files_named, placed_for_family, family_edits, families_edits, first_edits}
 use Rattle.store_image.specs.Calls.{IsNextFamily, AreNextFamilies}
+use Rattle.st_order.specs.Columns.{Pairwise}
 
 -- ---- the edits: families, each with its tables from the oldest; the log; the last number
 

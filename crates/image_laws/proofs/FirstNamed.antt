@@ -11,13 +11,13 @@ use Rattle.std.proofs.lemmas.List.{reverse-append}
 use Rattle.st_base.specs.Bytes.{below, bytes_cmp}
 use Rattle.base_laws.proofs.Lists.{each_as, each_back, each_front, each_join}
 use Rattle.core_laws.proofs.Lists.{pairs_back, pairs_front, pairs_join}
-use Rattle.core_model.specs.Column.{Pairwise}
 use Rattle.manifest_edits.specs.Edits.{Placement, NamedFamily, Named, has_id, is_file, may_place}
 use Rattle.store_image.specs.Recover.{IsNamed}
 use Rattle.image_laws.proofs.Lists.{flat_append}
 use Rattle.image_laws.proofs.RightEdits.{differ as differ_turned}
 use Rattle.image_laws.proofs.StandsNames.{pairs_of_places}
 use Rattle.store_image.specs.Calls.{AreNextFamilies}
+use Rattle.st_order.specs.Columns.{Pairwise}
 
 -- ---- lists
 

@@ -9,7 +9,6 @@ use Rattle.st_base.proofs.Same.{same_self}
 use Rattle.st_base.specs.declared.entry.Entry.{Entry}
 use Rattle.base_laws.proofs.Lists.{each_as, each_back, each_filter, each_front, each_join, filter_none, filter_whole}
 use Rattle.core_laws.proofs.Lists.{filter_join}
-use Rattle.core_model.specs.Column.{Pairwise, column, of_key}
 use Rattle.core_model.specs.Compaction.{without_last, with_flushed as flushed_view}
 use Rattle.core_model.specs.Picture.{FileEntries, FamilyView, Core, Job, level_at, runs_of, tables_in}
 use Rattle.core_model.specs.RelationParts.{NumbersWithin}
@@ -23,6 +22,7 @@ use Rattle.image_laws.proofs.Lists.{filter_map}
 use Rattle.image_laws.proofs.Best.{column_append}
 use Rattle.image_laws.proofs.Logs.{logs_stay, counts_stay, each_stays}
 use Rattle.manifest_edits.specs.Logs.{LogOp, log_op_entry, records_in}
+use Rattle.st_order.specs.Columns.{Pairwise, column, of_key}
 
 -- ---- filters
 

@@ -6,7 +6,6 @@ use Rattle.st_base.specs.Bytes.{below}
 use Rattle.st_base.specs.Range.{key_at_front}
 use Rattle.base_laws.proofs.Keys.{below_trans}
 use Rattle.base_laws.proofs.Lists.{each_as, each_filter}
-use Rattle.core_model.specs.Column.{Pairwise}
 use Rattle.core_model.specs.Commit.{put_table}
 use Rattle.core_model.specs.Compaction.{staying}
 use Rattle.core_model.specs.Picture.{FileEntries, Job, put_by_key, is_input}
@@ -15,6 +14,7 @@ use Rattle.store_image.specs.Parts.{ImageParts, table_at, placed_at, by_key, lev
 use Rattle.image_laws.proofs.Lists.{filter_map}
 use Rattle.image_laws.proofs.Flush.{filters_swap}
 use Rattle.store_image.specs.Calls.{placed_stays}
+use Rattle.st_order.specs.Columns.{Pairwise}
 
 -- ---- a table is added
 
@@ -108,10 +108,10 @@ dropped_tables parts job n tables =
     ∙ sym (filter_map (table_at parts) (stays job) (placed_at n tables))
 
 -- the levels without the job's inputs
-pub dropped_levels : (parts : ImageParts) (job : Job) (tables : List Placement) → ((n : ℕ) → 1 ≤ n → n ≤ 6 → Pairwise IsBelow (level_of parts tables n)) → image_levels parts (filter (placed_stays job) tables) ≡ map (staying job) (image_levels parts tables)
+pub dropped_levels : (parts : ImageParts) (job : Job) (tables : List Placement) → ((n : ℕ) → 1 ≤ n → n ≤ 6 → Pairwise IsBelow (level_of parts tables n)) → image_levels parts (filter (placed_stays job) tables) ≡ map (staying job.files) (image_levels parts tables)
 dropped_levels parts job tables rise = λ i.
     dropped_tables parts job 0 tables i ∷ one 1 (omega arith) (omega arith) i ∷ one 2 (omega arith) (omega arith) i ∷ one 3 (omega arith) (omega arith) i ∷ one 4 (omega arith) (omega arith) i
     ∷ one 5 (omega arith) (omega arith) i ∷ one 6 (omega arith) (omega arith) i ∷ []
   where
-    one : (n : ℕ) → 1 ≤ n → n ≤ 6 → level_of parts (filter (placed_stays job) tables) n ≡ staying job (level_of parts tables n)
+    one : (n : ℕ) → 1 ≤ n → n ≤ 6 → level_of parts (filter (placed_stays job) tables) n ≡ staying job.files (level_of parts tables n)
     one n low high = ap by_key (dropped_tables parts job n tables) ∙ by_key_filter (stays job) (map (table_at parts) (placed_at n tables)) (rise n low high)

@@ -7,9 +7,9 @@ use Rattle.st_base.specs.Bytes.{same}
 use Rattle.st_base.specs.declared.entry.Entry.{Entry}
 use Rattle.base_laws.proofs.Lists.{each_passed}
 use Rattle.core_laws.proofs.Lists.{filter_join}
-use Rattle.core_model.specs.Column.{Pairwise, column, of_key}
 use Rattle.core_model.specs.Picture.{FileEntries, runs_of}
 use Rattle.store_image.specs.Opens.{image_entries_of}
+use Rattle.st_order.specs.Columns.{Pairwise, column, of_key}
 
 -- ---- each, pairs
 

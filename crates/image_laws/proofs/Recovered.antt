@@ -10,7 +10,6 @@ use Rattle.st_base.specs.declared.entry.Entry.{Entry}
 use Rattle.base_laws.proofs.Lists.{each_as, each_back, each_front, each_join}
 use Rattle.core_laws.proofs.Lists.{pairs_filter, pairs_join}
 use Rattle.core_laws.proofs.WrittenFamily.{put_each}
-use Rattle.core_model.specs.Column.{Pairwise, of_key}
 use Rattle.core_model.specs.Picture.{FamilyView}
 use Rattle.manifest_edits.specs.Edits.{Placement, NamedFamily, Named, tables_named}
 use Rattle.store_image.specs.Opens.{ImageDamage, OpenedImageFamily, image_opened, image_family, image_damage, damage_at, image_log_damage, least_file, lesser_file, least_damage, unsound, is_sound, image_files_meeting_in, unfallen_in, unrisen, last_op}
@@ -20,6 +19,7 @@ use Rattle.store_image.specs.Tie.{IsTiedFamily, IsReadByOpening}
 use Rattle.image_laws.proofs.Logs.{whole_of}
 use Rattle.image_laws.proofs.Write.{put_column}
 use Rattle.manifest_edits.specs.Logs.{LogOp, log_op_entry, records_in}
+use Rattle.st_order.specs.Columns.{Pairwise, of_key}
 
 -- ---- numbers of operations rise, and those of counted entries fall
 

@@ -16,7 +16,6 @@ use Rattle.st_model.specs.Read.{mark_at, last_write}
 use Rattle.base_laws.proofs.Lists.{each_as, each_join}
 use Rattle.core_laws.proofs.Lists.{filter_join, pairs_as, pairs_join}
 use Rattle.core_laws.proofs.ToldByColumns.{column_joined as of_runs}
-use Rattle.core_model.specs.Column.{Pairwise, column, of_key, first_at, found_at}
 use Rattle.core_model.specs.Crash.{newest_of}
 use Rattle.core_model.specs.Picture.{find_mark, walk, runs_of, tables_in, above, level_at}
 use Rattle.core_model.specs.RelationParts.{NumbersWithin, NumbersFall}
@@ -27,6 +26,8 @@ use Rattle.image_laws.proofs.Best.{each_column, IsLower}
 use Rattle.image_laws.proofs.Maps.{value_with}
 use Rattle.image_laws.proofs.Reflect.{Follows, family_falls}
 use Rattle.image_laws.proofs.Recovered.{mem_column, FallsTo}
+use Rattle.st_order.specs.Columns.{Pairwise, column, of_key}
+use Rattle.job_model.specs.Column.{first_at, found_at}
 
 -- ---- the newest mark of a column
 

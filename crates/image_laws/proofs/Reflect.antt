@@ -6,9 +6,9 @@ use Rattle.std.proofs.lemmas.Bool.{false≢true, leb-true}
 use Rattle.st_base.specs.declared.entry.Entry.{Entry}
 use Rattle.base_laws.proofs.Lists.{append_none, each_as, each_back, each_front, each_join}
 use Rattle.core_laws.proofs.Lists.{pairs_join}
-use Rattle.core_model.specs.Column.{Pairwise}
 use Rattle.core_model.specs.Picture.{FileEntries}
 use Rattle.store_image.specs.Opens.{OpenedImageFamily, image_entries_of, may_follow, entries_fall, unfallen, unfallen_in, upper_tables, lower_tables}
+use Rattle.st_order.specs.Columns.{Pairwise}
 
 abbrev pub Follows : Bool → Entry → Entry → Type 0
 Follows bottom before entry = may_follow bottom entry before ≡ true

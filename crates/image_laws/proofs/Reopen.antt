@@ -4,19 +4,17 @@ use Rattle.std.specs.Prelude.{nat_le, max, min, MatchBool, length}
 use Rattle.std.specs.List.{list_any, AllByRecursion as Each, AllZip}
 use Rattle.std.proofs.lemmas.Bool.{false≢true, le-leb}
 use Rattle.st_base.specs.declared.entry.Entry.{Entry}
-use Rattle.core_model.specs.Column.{of_key, column}
 use Rattle.core_model.specs.Crash.{Reopens, IsFlushedByCrash, rank}
 use Rattle.core_model.specs.Picture.{Core, FamilyView, memories}
 use Rattle.core_model.specs.Step.{has_memory}
 use Rattle.manifest_edits.specs.Edits.{NamedFamily, Named}
-use Rattle.store_image.specs.Opens.{image_log_damage, read_damage, last_op}
+use Rattle.store_image.specs.Opens.{image_log_damage, read_damage, last_op, image_opened}
 use Rattle.store_image.specs.Parts.{ImageParts, log_ops_of}
 use Rattle.store_image.specs.Steps.{HasLevelsOf, HasNewTable, IsReopenedNamed, AllReopened, IsReopening}
 use Rattle.store_image.specs.Tie.{IsTiedToImage, IsTiedFamily, HoldsNamed, IsReadByOpening}
 use Rattle.core_model.specs.RelationParts.{MemoriesFall}
 use Rattle.st_model.specs.Contents.{contents, opened}
 use Rattle.store_image.specs.Claims.{OpenSwitches, opened_files}
-use Rattle.store_image.specs.Opens.{image_opened}
 use Rattle.image_laws.proofs.Opening.{tied_opens}
 use Rattle.image_laws.proofs.Again.{opened_has_contents}
 use Rattle.image_laws.proofs.Flush.{level_front}
@@ -24,6 +22,7 @@ use Rattle.image_laws.proofs.Frame.{family_frame}
 use Rattle.image_laws.proofs.Install.{opens_to}
 use Rattle.manifest_edits.specs.Logs.{LogOp, records_in}
 use Rattle.manifest_edits.specs.CallEdits.{flush_placement}
+use Rattle.st_order.specs.Columns.{of_key, column}
 
 -- ---- no memtable has an entry
 

@@ -22,11 +22,11 @@ use Rattle.st_model.specs.Contents.{is_kept, kept_marks, newest_marks}
 use Rattle.st_model.specs.Read.{read, mark_at, value_of}
 use Rattle.st_model.specs.Sound.{KeysRise, WritesWithin}
 use Rattle.st_model.specs.declared.state.ModelFamily.{ModelFamily}
-use Rattle.core_model.specs.Column.{column, of_key}
 use Rattle.core_model.specs.Picture.{runs_of, tables_in}
 use Rattle.store_image.specs.Image.{Ranked, all_ranked, best, ranked_of, image_mark, set_mark, image_keys, image_marks}
 use Rattle.store_image.specs.Opens.{OpenedImageFamily, image_entries_of}
 use Rattle.image_laws.proofs.Maps.{AreRising, IsSorted, shown, sorted_set, sorted_with, sorted_filter, sorted_same, kept_at, value_with}
+use Rattle.st_order.specs.Columns.{column, of_key}
 
 -- ---- maps whose keys rise
 

@@ -14,10 +14,10 @@ use Rattle.st_model.specs.declared.state.ModelState.{ModelState}
 use Rattle.base_laws.proofs.Lists.{each_as, each_map, map_each}
 use Rattle.base_laws.proofs.Maps.{found_each}
 use Rattle.core_laws.proofs.Lists.{pairs_as}
-use Rattle.core_model.specs.Column.{Pairwise}
 use Rattle.core_model.specs.Relation.{Represents}
 use Rattle.core_model.specs.Picture.{Core, FamilyView}
 use Rattle.image_laws.proofs.Write.{NamesFamily}
+use Rattle.st_order.specs.Columns.{Pairwise}
 
 -- ---- pairs by their places, as pairs along the list
 

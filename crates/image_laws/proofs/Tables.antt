@@ -1,10 +1,8 @@
 -- Tables that are added to a family and dropped from it: a commit's files, a compaction's inputs and outputs.
-use Rattle.std.proofs.Common.{◌≡◌, ℕ, zero, suc, ◌≤◌, List, [], ◌∷◌, map, filter, fold, refl, ap, ◌∙◌, arith}
+use Rattle.std.proofs.Common.{◌≡◌, ℕ, zero, suc, ◌≤◌, List, [], ◌∷◌, map, filter, fold, refl, ap, ◌∙◌, arith, subst}
 use Rattle.std.specs.Prelude.{IsTrue, set, slice_get, unwrap_or}
-use Rattle.std.proofs.Common.{subst}
 use Rattle.std.specs.List.{AllZip}
 use Rattle.base_laws.proofs.Lists.{each_filter}
-use Rattle.core_model.specs.Column.{Pairwise}
 use Rattle.core_model.specs.Commit.{put_table}
 use Rattle.core_model.specs.Compaction.{staying, put_all, with_compacted}
 use Rattle.core_model.specs.Picture.{FileEntries, FamilyView, Job, put_by_key, level_at}
@@ -14,8 +12,8 @@ use Rattle.store_image.specs.Parts.{ImageParts, table_at, placed_at, image_level
 use Rattle.store_image.specs.Tie.{IsTiedFamily}
 use Rattle.image_laws.proofs.Levels.{added_level, dropped_levels, IsBelow}
 use Rattle.manifest_edits.specs.Logs.{LogOp}
-use Rattle.store_image.specs.Calls.{placed_stays}
-use Rattle.store_image.specs.Calls.{compacted_named}
+use Rattle.store_image.specs.Calls.{placed_stays, compacted_named}
+use Rattle.st_order.specs.Columns.{Pairwise}
 
 -- an ingested file, or an output of a compaction, at its level
 pub family_added : (parts : ImageParts) (ops : List LogOp) (last after : ℕ) (here : List ℕ × FamilyView) (there : List ℕ × NamedFamily) (placed : Placement) (table : FileEntries) (n : ℕ) → IsTiedFamily parts ops last here there
@@ -34,11 +32,11 @@ family_added parts ops last after here there placed table n tied le small level 
 -- the inputs of a compaction
 pub family_dropped : (parts : ImageParts) (ops : List LogOp) (last : ℕ) (here : List ℕ × FamilyView) (there : List ℕ × NamedFamily) (job : Job) → IsTiedFamily parts ops last here there
     → ((n : ℕ) → 1 ≤ n → n ≤ 6 → Pairwise IsBelow (level_of parts there.1.tables n))
-    → IsTiedFamily parts ops last (here.0, record here.1 { levels = map (staying job) here.1.levels }) (there.0, record there.1 { tables = filter (placed_stays job) there.1.tables })
+    → IsTiedFamily parts ops last (here.0, record here.1 { levels = map (staying job.files) here.1.levels }) (there.0, record there.1 { tables = filter (placed_stays job) there.1.tables })
 family_dropped parts ops last here there job tied rise = record {
   name = tied.name;
   id = tied.id;
-  levels = dropped_levels parts job there.1.tables rise ∙ ap (map (staying job)) tied.levels;
+  levels = dropped_levels parts job there.1.tables rise ∙ ap (map (staying job.files)) tied.levels;
   memory = tied.memory;
   order = tied.order;
   flushed = tied.flushed;
@@ -66,14 +64,14 @@ outputs_put (suc (suc (suc (suc (suc (suc (suc n))))))) a b c d e f g outputs lo
 -- ---- an installed compaction
 
 compacted_levels : (L : ℕ) (job : Job) (a b c d e f g outputs : List FileEntries) → 1 ≤ L → L ≤ 6 → let levels = a ∷ b ∷ c ∷ d ∷ e ∷ f ∷ g ∷ [] in
-    fold (λ levels table. put_table L table levels) (map (staying job) levels) outputs ≡ set (map (staying job) levels) L (put_all outputs (staying job (unwrap_or (slice_get levels L) [])))
+    fold (λ levels table. put_table L table levels) (map (staying job.files) levels) outputs ≡ set (map (staying job.files) levels) L (put_all outputs (staying job.files (unwrap_or (slice_get levels L) [])))
 compacted_levels zero job a b c d e f g outputs low high = absurd (omega arith)
-compacted_levels (suc zero) job a b c d e f g outputs low high = outputs_put 1 (staying job a) (staying job b) (staying job c) (staying job d) (staying job e) (staying job f) (staying job g) outputs low high
-compacted_levels (suc (suc zero)) job a b c d e f g outputs low high = outputs_put 2 (staying job a) (staying job b) (staying job c) (staying job d) (staying job e) (staying job f) (staying job g) outputs low high
-compacted_levels (suc (suc (suc zero))) job a b c d e f g outputs low high = outputs_put 3 (staying job a) (staying job b) (staying job c) (staying job d) (staying job e) (staying job f) (staying job g) outputs low high
-compacted_levels (suc (suc (suc (suc zero)))) job a b c d e f g outputs low high = outputs_put 4 (staying job a) (staying job b) (staying job c) (staying job d) (staying job e) (staying job f) (staying job g) outputs low high
-compacted_levels (suc (suc (suc (suc (suc zero))))) job a b c d e f g outputs low high = outputs_put 5 (staying job a) (staying job b) (staying job c) (staying job d) (staying job e) (staying job f) (staying job g) outputs low high
-compacted_levels (suc (suc (suc (suc (suc (suc zero)))))) job a b c d e f g outputs low high = outputs_put 6 (staying job a) (staying job b) (staying job c) (staying job d) (staying job e) (staying job f) (staying job g) outputs low high
+compacted_levels (suc zero) job a b c d e f g outputs low high = outputs_put 1 (staying job.files a) (staying job.files b) (staying job.files c) (staying job.files d) (staying job.files e) (staying job.files f) (staying job.files g) outputs low high
+compacted_levels (suc (suc zero)) job a b c d e f g outputs low high = outputs_put 2 (staying job.files a) (staying job.files b) (staying job.files c) (staying job.files d) (staying job.files e) (staying job.files f) (staying job.files g) outputs low high
+compacted_levels (suc (suc (suc zero))) job a b c d e f g outputs low high = outputs_put 3 (staying job.files a) (staying job.files b) (staying job.files c) (staying job.files d) (staying job.files e) (staying job.files f) (staying job.files g) outputs low high
+compacted_levels (suc (suc (suc (suc zero)))) job a b c d e f g outputs low high = outputs_put 4 (staying job.files a) (staying job.files b) (staying job.files c) (staying job.files d) (staying job.files e) (staying job.files f) (staying job.files g) outputs low high
+compacted_levels (suc (suc (suc (suc (suc zero))))) job a b c d e f g outputs low high = outputs_put 5 (staying job.files a) (staying job.files b) (staying job.files c) (staying job.files d) (staying job.files e) (staying job.files f) (staying job.files g) outputs low high
+compacted_levels (suc (suc (suc (suc (suc (suc zero)))))) job a b c d e f g outputs low high = outputs_put 6 (staying job.files a) (staying job.files b) (staying job.files c) (staying job.files d) (staying job.files e) (staying job.files f) (staying job.files g) outputs low high
 compacted_levels (suc (suc (suc (suc (suc (suc (suc n))))))) job a b c d e f g outputs low high = absurd (omega arith)
 
 -- the outputs, each placed at the level
@@ -96,9 +94,9 @@ pub compact_family : (parts : ImageParts) (ops : List LogOp) (last : ℕ) (here 
     → IsTiedFamily parts ops last (here.0, with_compacted job outputs here.1) (there.0, compacted_named job placed there.1)
 compact_family parts ops last here there job placed outputs tied low high rise zip =
     subst (λ levels. IsTiedFamily parts ops last (here.0, record here.1 { levels = levels }) (there.0, compacted_named job placed there.1)) levels_are
-    (all_added parts ops last job.level (here.0, record here.1 { levels = map (staying job) here.1.levels }) (there.0, record there.1 { tables = filter (placed_stays job) there.1.tables }) placed outputs high zip
+    (all_added parts ops last job.level (here.0, record here.1 { levels = map (staying job.files) here.1.levels }) (there.0, record there.1 { tables = filter (placed_stays job) there.1.tables }) placed outputs high zip
     (family_dropped parts ops last here there job tied rise))
   where
-    levels_are : fold (λ levels table. put_table job.level table levels) (map (staying job) here.1.levels) outputs ≡ set (map (staying job) here.1.levels) job.level (put_all outputs (staying job (level_at here.1 job.level)))
-    levels_are = subst (λ levels. fold (λ levels table. put_table job.level table levels) (map (staying job) levels) outputs ≡ set (map (staying job) levels) job.level (put_all outputs (staying job (unwrap_or (slice_get levels job.level) [])))) tied.levels
+    levels_are : fold (λ levels table. put_table job.level table levels) (map (staying job.files) here.1.levels) outputs ≡ set (map (staying job.files) here.1.levels) job.level (put_all outputs (staying job.files (level_at here.1 job.level)))
+    levels_are = subst (λ levels. fold (λ levels table. put_table job.level table levels) (map (staying job.files) levels) outputs ≡ set (map (staying job.files) levels) job.level (put_all outputs (staying job.files (unwrap_or (slice_get levels job.level) [])))) tied.levels
         (compacted_levels job.level job (map (table_at parts) (placed_at 0 there.1.tables)) (level_of parts there.1.tables 1) (level_of parts there.1.tables 2) (level_of parts there.1.tables 3) (level_of parts there.1.tables 4) (level_of parts there.1.tables 5) (level_of parts there.1.tables 6) outputs low high)

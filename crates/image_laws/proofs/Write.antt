@@ -17,7 +17,6 @@ use Rattle.base_laws.proofs.Lists.{append_one, each_as, each_join}
 use Rattle.core_laws.proofs.LevelLists.{map_append}
 use Rattle.core_laws.proofs.Lists.{filter_join}
 use Rattle.core_laws.proofs.WrittenFamily.{put_each}
-use Rattle.core_model.specs.Column.{of_key, column}
 use Rattle.core_model.specs.Picture.{Core, FamilyView, walk, runs_of, tables_in}
 use Rattle.core_model.specs.RelationParts.{NumbersWithin}
 use Rattle.core_model.specs.Step.{put_in_memory, with_memory_entry, with_operations, with_batch}
@@ -33,6 +32,7 @@ use Rattle.image_laws.proofs.Frame.{families_frame}
 use Rattle.store_image.specs.Tie.{EngineFiles, HoldsNamed, IsTiedFamily}
 use Rattle.manifest_edits.specs.Logs.{LogOp, log_op_entry, records_in}
 use Rattle.store_image.specs.Calls.{HasLogMore}
+use Rattle.st_order.specs.Columns.{of_key, column}
 
 -- ---- an entry among those of a memtable
 

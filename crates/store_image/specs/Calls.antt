@@ -1,6 +1,5 @@
 -- The calls of the engine: the group that each appends, what is named after it, and what must hold before it.
 use Rattle.std.specs.Prelude.{◌≡◌, ℕ, false, List, [], ◌∷◌, ◌++◌, ◌==◌, true, flat_map, reverse, nat_lt, ⊤, Bool, not, filter, fold, max, ◌+◌, unwrap_or, option_map, Some, map, IsTrue, IsFalse, None}
-use Rattle.core_model.specs.Column.{Pairwise}
 use Rattle.std.specs.declared.cmp.Ordering.TheVariants.{Greater}
 use Rattle.std.specs.List.{list_any, AllByRecursion as Each}
 use Rattle.st_base.specs.Bytes.{bytes_cmp}
@@ -22,6 +21,7 @@ use Rattle.store_image.specs.Steps.{is_spent, with_flush, flushed_named, without
 use Rattle.manifest_edits.specs.Logs.{records_in, LogFound, LogOp}
 use Rattle.st_model.specs.declared.change.Op.{Op}
 use Rattle.st_model.specs.Apply.{op_family, op_key, op_mark}
+use Rattle.st_order.specs.Columns.{Pairwise}
 
 -- no two of these files are equal
 abbrev pub FilesAllDiffer : List ℕ → Type 0

@@ -6,13 +6,14 @@ use Rattle.st_base.specs.declared.entry.Entry.{Entry}
 use Rattle.st_model.specs.declared.state.ModelState.{ModelState}
 use Rattle.st_model.specs.Contents.{contents, opened}
 use Rattle.core_model.specs.Crash.{IsFlushedByCrash, known_keys, rank}
-use Rattle.core_model.specs.Event.{CoreReply, Crashed, Done}
+use Rattle.core_model.specs.Event.{Crashed}
+use Rattle.core_model.specs.declared.reply.CoreReply.{CoreReply}
+use Rattle.core_model.specs.declared.reply.CoreReply.TheVariants.{Done}
 use Rattle.core_model.specs.Relation.{Represents}
-use Rattle.core_model.specs.Compaction.{IsJoined}
 use Rattle.core_model.specs.Picture.{FamilyView, Core, memories}
 use Rattle.core_model.specs.Run.{IsCoreStep, Refines}
 use Rattle.core_model.specs.Step.{IsNow, AreFilesBelow, has_memory}
-use Rattle.manifest_edits.specs.Edits.{NamedFamily, Named, GroupRecord, manifest_reading_none, read_records}
+use Rattle.manifest_edits.specs.Edits.{NamedFamily, Named, GroupRecord, files_in, manifest_reading_none, read_records}
 use Rattle.store_image.specs.Image.{image_contents_in, image_contents, image_known_keys}
 use Rattle.store_image.specs.Opens.{OpenedImage, image_opens, image_opened, image_damage}
 use Rattle.store_image.specs.Parts.{ImageParts, file_entries, table_at}
@@ -21,6 +22,7 @@ use Rattle.store_image.specs.Steps.{SameNamed, OnlyUnnamed, HasLevelsOf, HasNewT
 use Rattle.store_image.specs.Tie.{EngineFiles, IsApart, IsTiedToImage}
 use Rattle.manifest_edits.specs.Logs.{LogFound, records_in, log_op_entry}
 use Rattle.manifest_edits.specs.CallEdits.{flush_placement}
+use Rattle.st_order.specs.Columns.{IsJoined}
 use Rattle.core_model.specs.RelationParts.{IsSortedRun, FitsSizes}
 
 -- ---- what an image names
@@ -229,6 +231,16 @@ OpeningHasNumbers = (core : Core) (first : ℕ) → HasFileNumbers core first
 -- it can come to its end, where the crash can come
 abbrev pub EveryOpeningCanEnd : Type 0
 EveryOpeningCanEnd = CrashSteps → OpeningSteps
+
+-- From each image without damage there is an image with the root's record open, where file numbers suffice and none
+-- that is named is at or above the first.
+abbrev pub OpeningCanEnd : Type 0
+OpeningCanEnd = (flag : Bool) (parts : ImageParts) (o : OpenedImage) (capacity first : ℕ) → IsDecoded parts
+    → image_opens flag parts ≡ Ok o → (to : IsOpenedAs flag parts o) → 1 < first
+    → Each (λ file. file < first) (files_in to.named) → HasFileNumbers (recovered_core capacity o) first
+    → (after : Core) × (other : ImageParts) × (files : EngineFiles)
+    × IsCoreStep (recovered_core capacity o) (Crashed first) Done after
+    × IsReopened parts other (recovered_core capacity o) after first to.named files
 
 -- what nothing names is removed behind the root's record: the end stays as it is
 abbrev pub SweptEnds : Type 0

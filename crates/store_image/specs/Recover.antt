@@ -1,8 +1,7 @@
 -- An opening of any image: the core that it reads, before the counted operations become tables, and the state that it
 -- stands for.
-use Rattle.std.specs.Prelude.{Some, true}
+use Rattle.std.specs.Prelude.{Some, true, ℕ, Bool, ◌≡◌, ◌+◌, max, List, [], ◌∷◌, map, fold, reverse, None}
 use Rattle.st_base.specs.declared.entry.Entry.{Entry}
-use Rattle.std.specs.Prelude.{ℕ, Bool, ◌≡◌, ◌+◌, max, List, [], ◌∷◌, map, fold, reverse, None}
 use Rattle.std.specs.List.{AllByRecursion as Each}
 use Rattle.st_model.specs.declared.state.ModelFamily.{ModelFamily}
 use Rattle.st_model.specs.declared.state.ModelState.{ModelState}
@@ -11,12 +10,12 @@ use Rattle.core_model.specs.Crash.{newest_of, opened_charge}
 use Rattle.core_model.specs.Relation.{Represents}
 use Rattle.core_model.specs.Picture.{FamilyView, Core, runs_of, tables_in}
 use Rattle.core_model.specs.Step.{put_in_memory}
-use Rattle.core_model.specs.Column.{Pairwise}
 use Rattle.st_model.specs.Sound.{KeysRise}
 use Rattle.manifest_edits.specs.Edits.{Edit, Named, may_place, tables_named, edited_all}
 use Rattle.store_image.specs.Image.{image_contents, image_keys, image_ranges}
 use Rattle.store_image.specs.Opens.{OpenedImageFamily, OpenedImage, image_opened, image_damage}
 use Rattle.store_image.specs.Parts.{ImageParts}
+use Rattle.st_order.specs.Columns.{Pairwise}
 use Rattle.core_model.specs.RelationParts.{IsSortedRun}
 
 -- the entries, of which the newest come first, in entry order

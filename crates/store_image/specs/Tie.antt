@@ -1,13 +1,13 @@
 -- The tie: the image's parts hold what the core keeps in memory.
 use Rattle.std.specs.Prelude.{ℕ, Bool, ◌≡◌, ◌≢◌, ◌≤◌, ◌<◌, ◌++◌, max, IsTrue, List, [], ◌∷◌, None, Ok}
 use Rattle.std.specs.List.{AllByRecursion as Each, AllZip}
-use Rattle.core_model.specs.Column.{column, of_key}
 use Rattle.core_model.specs.Picture.{FamilyView, Core, memories}
 use Rattle.core_model.specs.RelationParts.{MemoriesFall}
 use Rattle.manifest_edits.specs.Edits.{NamedFamily, Named, GroupRecord, manifest_reading_none, read_records, table_files, files_in}
 use Rattle.store_image.specs.Parts.{ImageParts, log_ops_of, counted_entries, image_levels}
 use Rattle.store_image.specs.Opens.{last_op, image_log_damage, is_sound}
 use Rattle.manifest_edits.specs.Logs.{LogFound, LogOp}
+use Rattle.st_order.specs.Columns.{column, of_key}
 
 -- a family, and what the manifest names of it
 pub record IsTiedFamily (parts : ImageParts) (ops : List LogOp) (last : ℕ) (here : List ℕ × FamilyView)

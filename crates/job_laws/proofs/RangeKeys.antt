@@ -10,8 +10,8 @@ use Rattle.st_base.proofs.Same.{same_true}
 use Rattle.st_base.specs.Range.{is_in_range, meet, keys_of}
 use Rattle.base_laws.proofs.Keys.{at_most_trans}
 use Rattle.base_laws.proofs.Ranges.{both_within_meet, within_parts}
-use Rattle.core_model.specs.Column.{of_key}
-use Rattle.core_model.specs.Level.{lesser_key, least_within}
+use Rattle.st_order.specs.Columns.{of_key}
+use Rattle.st_order.specs.Least.{lesser_key, least_within}
 
 -- ---- ranges that meet
 

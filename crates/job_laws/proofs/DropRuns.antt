@@ -1,5 +1,5 @@
 -- The ranges where a compaction may drop tombstones.
-use Rattle.std.proofs.Common.{◌≡◌, ℕ, Bool, true, false, cond, ◌&&◌, List, [], ◌∷◌, refl, sym, ◌∙◌, inl, inr}
+use Rattle.std.proofs.Common.{◌≡◌, ℕ, Bool, true, false, cond, ◌&&◌, List, [], ◌∷◌, refl, sym, subst, ◌∙◌, inl, inr}
 use Rattle.std.specs.Prelude.{IsTrue, IsFalse, fold, flat_map}
 use Rattle.std.specs.List.{list_any, AllByRecursion as Each}
 use Rattle.std.proofs.lemmas.Bool.{cases_Bool, and_from, and_parts, false≢true}
@@ -9,9 +9,16 @@ use Rattle.st_base.specs.declared.entry.KeyRange.{KeyRange}
 use Rattle.st_base.specs.Range.{is_in_range, meet, keys_of}
 use Rattle.base_laws.proofs.Keys.{at_most_trans, below_at_most, not_at_most}
 use Rattle.base_laws.proofs.Lists.{each_as, each_flat_map, each_map, none_any}
-use Rattle.core_laws.specs.Claims.{RunsAreClear}
-use Rattle.core_model.specs.Drops.{put_key, rising_keys, covers, join_run, drop_runs}
-use Rattle.core_laws.proofs.Keys.{and_swaps}
+use Rattle.job_laws.specs.Laws.{RunsAreClear}
+use Rattle.job_laws.proofs.Rightward.{from_the_left, join_run, put_key, runs_joined}
+use Rattle.job_laws.proofs.Rising.{rising_is_put}
+use Rattle.job_model.specs.Drops.{covers, drop_runs, rising_keys}
+
+and_swaps : (x y : Bool) → (x && y) ≡ (y && x)
+and_swaps true true = refl
+and_swaps true false = refl
+and_swaps false true = refl
+and_swaps false false = refl
 
 -- the range meets none of these
 abbrev pub IsClear : List KeyRange → KeyRange → Type 0
@@ -60,14 +67,17 @@ join_clear lower key (range ∷ ranges) proper outside clear = split (list_any (
     split true e = (alone_clear lower key outside, clear)
     split false e = (both_clear key range lower proper (none_any (meet (record { first = key; last = range.first })) lower e) clear.0, clear.1)
 
+joined_clear_all : (lower : List KeyRange) (keys : List (List ℕ)) → Each IsProper lower → Each (IsClear lower) (runs_joined lower keys)
+joined_clear_all lower [] proper = tt
+joined_clear_all lower (key ∷ keys) proper = split (joined_clear_all lower keys proper) (covers lower key) refl
+  where
+    split : Each (IsClear lower) (runs_joined lower keys) → (b : Bool) → covers lower key ≡ b → Each (IsClear lower) (cond b (runs_joined lower keys) (join_run lower key (runs_joined lower keys)))
+    split rest true e = rest
+    split rest false e = join_clear lower key (runs_joined lower keys) proper e rest
+
 -- no lower range meets a run, where the lower ranges are proper
 pub runs_are_clear : RunsAreClear
-runs_are_clear lower [] proper = tt
-runs_are_clear lower (key ∷ keys) proper = split (runs_are_clear lower keys proper) (covers lower key) refl
-  where
-    split : Each (IsClear lower) (drop_runs lower keys) → (b : Bool) → covers lower key ≡ b → Each (IsClear lower) (cond b (drop_runs lower keys) (join_run lower key (drop_runs lower keys)))
-    split rest true e = rest
-    split rest false e = join_clear lower key (drop_runs lower keys) proper e rest
+runs_are_clear lower keys proper = subst (Each (IsClear lower)) (sym (from_the_left lower keys)) (joined_clear_all lower keys proper)
 
 -- ---- runs lie where their keys do
 
@@ -83,13 +93,16 @@ join_ends range lower key (run ∷ ranges) within ends = split (list_any (meet (
     split true = (and_from (is_in_range range key) (is_in_range range key) within within, ends)
     split false = (and_from (is_in_range range key) (is_in_range range run.last) within (and_parts (is_in_range range run.first) (is_in_range range run.last) ends.0).1, ends.1)
 
-pub runs_within : (range : KeyRange) (lower : List KeyRange) (keys : List (List ℕ)) → Each (λ key. is_in_range range key ≡ true) keys → Each (HasEnds range) (drop_runs lower keys)
-runs_within range lower [] each = tt
-runs_within range lower (key ∷ keys) each = split (runs_within range lower keys each.1) (covers lower key)
+joined_within : (range : KeyRange) (lower : List KeyRange) (keys : List (List ℕ)) → Each (λ key. is_in_range range key ≡ true) keys → Each (HasEnds range) (runs_joined lower keys)
+joined_within range lower [] each = tt
+joined_within range lower (key ∷ keys) each = split (joined_within range lower keys each.1) (covers lower key)
   where
-    split : Each (HasEnds range) (drop_runs lower keys) → (b : Bool) → Each (HasEnds range) (cond b (drop_runs lower keys) (join_run lower key (drop_runs lower keys)))
+    split : Each (HasEnds range) (runs_joined lower keys) → (b : Bool) → Each (HasEnds range) (cond b (runs_joined lower keys) (join_run lower key (runs_joined lower keys)))
     split rest true = rest
-    split rest false = join_ends range lower key (drop_runs lower keys) each.0 rest
+    split rest false = join_ends range lower key (runs_joined lower keys) each.0 rest
+
+pub runs_within : (range : KeyRange) (lower : List KeyRange) (keys : List (List ℕ)) → Each (λ key. is_in_range range key ≡ true) keys → Each (HasEnds range) (drop_runs lower keys)
+runs_within range lower keys each = subst (Each (HasEnds range)) (sym (from_the_left lower keys)) (joined_within range lower keys each)
 
 put_key_each : (P : List ℕ → Type 0) (keys : List (List ℕ)) (key : List ℕ) → Each P keys → P key → Each P (put_key keys key)
 put_key_each P [] key each this = (this, tt)
@@ -107,8 +120,9 @@ put_keys_each P some (key ∷ keys) each more = put_keys_each P (put_key some ke
 -- the rising keys of runs are keys of theirs
 pub rising_each : (P : List ℕ → Type 0) (runs : List (List Entry)) → Each (Each (λ entry. P entry.key)) runs → Each P (rising_keys runs)
 rising_each P runs each =
-    put_keys_each P [] (flat_map keys_of runs) tt
-    (each_flat_map P keys_of runs (each_as (Each (λ entry. P entry.key)) (λ entries. Each P (keys_of entries)) (λ entries keys. each_map P (λ entry. entry.key) entries keys) runs each))
+    subst (Each P) (sym (rising_is_put runs))
+    (put_keys_each P [] (flat_map keys_of runs) tt
+    (each_flat_map P keys_of runs (each_as (Each (λ entry. P entry.key)) (λ entries. Each P (keys_of entries)) (λ entries keys. each_map P (λ entry. entry.key) entries keys) runs each)))
 
 -- why the lower ranges must be proper: a range from 5 to 1 meets neither 1..1, 3..3 nor what lies between, but it meets 1..6
 abbrev one_byte : ℕ → ℕ → KeyRange
