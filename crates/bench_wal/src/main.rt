@@ -21,7 +21,7 @@ fn append_all(disk: &mut UnrecordedDisk, count: u64) -> io::Result<u64> {
             return Err(Error::from(ErrorKind::Other));
         }
     }
-    Ok(log.at + 1)
+    Ok(log.length())
 }
 
 // How many records the log in file 3 has.

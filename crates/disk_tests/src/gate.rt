@@ -3,9 +3,8 @@ ghost use Rattle.st_device.specs.Disk.{IsHonest};
 ghost use Rattle.st_gate.specs.Rest.{IsAtRest};
 
 use crate::disks::{FATES, left_by, reads_as};
-use st_base::Bytes;
 use st_device::{Disk, MemDisk, write_durably};
-use st_gate::{AppendFault, GateLog, LogKind, ReplayFault};
+use st_gate::{AppendFault, GateLog, LogKind, Record, ReplayFault};
 use std::alloc::Global;
 use std::test::Fail;
 
@@ -37,12 +36,17 @@ fn make_and_append<D: Disk>(disk: &mut D) -> Option<usize>
     }
 }
 
+// Whether the record has this payload, and its gate this offset.
+fn is_at(record: &Record, payload: &[u8], at: u64) -> bool {
+    record.payload.as_slice() == payload && record.at == at
+}
+
 // Whether these are the first of the two records, or both.
-fn are_first(records: &[Bytes]) -> bool {
+fn are_first(records: &[Record]) -> bool {
     match records {
         [] => true,
-        [one] => one.as_slice() == FIRST,
-        [one, two] => one.as_slice() == FIRST && two.as_slice() == SECOND,
+        [one] => is_at(one, FIRST, 8),
+        [one, two] => is_at(one, FIRST, 8) && is_at(two, SECOND, 22),
         _ => false,
     }
 }

@@ -1,8 +1,11 @@
+ghost use Rattle.st_device.specs.Disk.{IsHonest};
+ghost use Rattle.st_wal.specs.Wal.{IsReady};
+
 use crate::disks::{FATES, left_by};
 use crate::puts::{append_both, one_put};
 use log_recover::{OpenFault, recover};
 use st_device::{Disk, MemDisk};
-use st_wal::LogRecord;
+use st_wal::{LogRecord, Wal};
 use std::alloc::Global;
 use std::test::Fail;
 
@@ -55,6 +58,48 @@ fn operations_are_opened_again(rt: HostRuntime) -> Result<(), Fail> {
             written_opens_as(alloc, &one, &two, want),
             "{first} {second} {family}"
         );
+    }
+    Ok(())
+}
+
+// Appends the records, and behind them one that isn't of the kind: whether each was answered Ok.
+fn append_damaged<D: Disk>(disk: &mut D, wal: &mut Wal, one: &LogRecord, two: &LogRecord) -> bool
+    requires { IsHonest (D.tells disk.old) → IsReady wal.old (D.tells disk.old) }
+{
+    if wal.append(disk, one).is_err() {
+        return false;
+    }
+    if wal.append(disk, two).is_err() {
+        return false;
+    }
+    wal.log.append(disk, b"").is_ok()
+}
+
+// Makes a store with these records and one that isn't of the kind behind them: whether each was answered Ok.
+fn write_damaged<D: Disk>(alloc: Global, disk: &mut D, one: &LogRecord, two: &LogRecord) -> bool {
+    match recover(alloc, disk) {
+        Ok((_, mut wal)) => append_damaged(disk, &mut wal, one, two),
+        Err(_) => false,
+    }
+}
+
+// The numbers of two operations, in records at 8 and 38, and the offset of the first fault in front of the damage at
+// 68, or that of the damage.
+const FAULTS: [(u64, u64, u64); 4] = [(1, 2, 68), (2, 2, 38), (2, 1, 38), (0, 1, 8)];
+
+// Whether a store with these records, and one that isn't of the kind behind them, is damaged at this offset.
+fn damaged_opens_as(alloc: Global, one: &LogRecord, two: &LogRecord, at: u64) -> bool {
+    let mut disk = MemDisk::new(alloc, Vec::new(alloc));
+    write_damaged(alloc, &mut disk, one, two) && opens_as(alloc, &mut disk, Err(at))
+}
+
+#[test]
+fn the_first_fault_of_a_log_is_told(rt: HostRuntime) -> Result<(), Fail> {
+    let alloc = rt.alloc();
+    for &(first, second, at) in &FAULTS {
+        let one = one_put(alloc, first, 0, b"a", b"1")?;
+        let two = one_put(alloc, second, 0, b"a", b"1")?;
+        assert!(rt; damaged_opens_as(alloc, &one, &two, at), "{first} {second}");
     }
     Ok(())
 }

@@ -3,9 +3,9 @@ ghost use Rattle.st_device.specs.Disk.{IsHonest};
 
 use crate::disks::{FATES, left_by, reads_as};
 use crate::puts::{append_both, one_put};
-use st_device::{Disk, MemDisk};
+use st_device::{Disk, MemDisk, write_durably};
 use st_gate::{GateLog, LogKind, ReplayFault};
-use st_wal::{LogRecord, Logged, Wal};
+use st_wal::{LogRecord, Logged, Wal, WalEnd};
 use std::alloc::Global;
 use std::test::Fail;
 
@@ -154,6 +154,75 @@ fn a_payload_is_of_the_kind(rt: HostRuntime) -> Result<(), Fail> {
         let mut disk = MemDisk::new(alloc, Vec::new(alloc));
         write_payload(&mut disk, payload)?;
         assert!(rt; is_read_as(alloc, &mut disk, want), "{payload:?}");
+    }
+    Ok(())
+}
+
+// A log of two puts, whose gates stand at 8, 38 and 74, as the format has it.
+const TWO_PUTS: [u8; 75] =
+    *b"STWLOG01\x01\x15\0\0\0\x9f\xe2\xb3\x88\x01\0\0\0\0\0\0\0\x01\0\0\0\x01\0\0\0\0\x01a\x011\x01\x1b\0\0\0a\x87\x9c=\x02\0\0\0\0\0\0\0\x01\0\0\0\x01\0\0\0\0\x03key\x05value\0";
+
+// The byte at an offset is made this one: how many operations stand in front, and the offset of the closed gate or of
+// the damage.
+const SCANS: [(usize, u8, usize, Result<u64, u64>); 8] = [
+    (74, 0, 2, Ok(74)),
+    (74, 1, 2, Err(74)),
+    (38, 0, 1, Ok(38)),
+    (73, b'E', 1, Err(38)),
+    (43, 0, 1, Err(38)),
+    (37, b'2', 0, Err(8)),
+    (8, 0, 0, Ok(8)),
+    (0, b's', 0, Err(0)),
+];
+
+// Where the operations end.
+fn end_of(end: &WalEnd) -> Result<u64, u64> {
+    match end {
+        WalEnd::Gate(wal) => Ok(wal.log.at),
+        WalEnd::Damage(at) => Err(*at),
+    }
+}
+
+// Whether file 3 is scanned as so many operations in front of this end.
+fn is_scanned_as<D: Disk>(
+    alloc: Global,
+    disk: &mut D,
+    count: usize,
+    end: Result<u64, u64>,
+) -> bool {
+    match Wal::scan(alloc, disk, 3) {
+        Ok(scanned) => {
+            let first = scanned.operations.as_slice();
+            first.len() == count && are_first(first) && end_of(&scanned.end) == end
+        }
+        Err(_) => false,
+    }
+}
+
+// The same of the two puts with this byte at an offset.
+fn changed_is_scanned_as(
+    alloc: Global,
+    at: usize,
+    byte: u8,
+    count: usize,
+    end: Result<u64, u64>,
+) -> Result<bool, Fail> {
+    let mut bytes = TWO_PUTS;
+    if let Some(changed) = bytes.get_mut(at) {
+        *changed = byte;
+    }
+    let mut disk = MemDisk::new(alloc, Vec::new(alloc));
+    write_durably(&mut disk, 3, &bytes)?;
+    Ok(is_scanned_as(alloc, &mut disk, count, end))
+}
+
+#[test]
+fn operations_in_front_of_damage_are_read(rt: HostRuntime) -> Result<(), Fail> {
+    for &(at, byte, count, end) in &SCANS {
+        assert!(rt;
+            changed_is_scanned_as(rt.alloc(), at, byte, count, end)?,
+            "at {at}"
+        );
     }
     Ok(())
 }

@@ -2,7 +2,7 @@
 use Rattle.std.proofs.Common.{◌≡◌, ◌≢◌, ◌⊎◌, inl, inr, ⊎_elim, ℕ, ◌==◌, ◌&&◌, nat_lt, Bool, true, false, cond, List, [], ◌∷◌, ◌++◌, Option, Some, None, Ok, refl, sym, ◌∙◌, ap, subst, IsSome, arith}
 use Rattle.st_device.specs.Disk.{Image, DiskTold, Passes, IsHonest, SameBut, Created, OnlyFile, Leaves}
 use Rattle.st_gate.proofs.Rest.{rest_stays}
-use Rattle.st_wal.specs.Logged.{IsWithOrWithout, read_as_log, whole_operations}
+use Rattle.st_wal.specs.Logged.{IsWithOrWithout, operations_in, read_as_log}
 use Rattle.st_wal.specs.Logged.Operations.{Whole}
 use Rattle.st_wal.specs.Wal.{IsReady, operations}
 use Rattle.st_wal.specs.declared.logged.Logged.{Logged}
@@ -116,7 +116,7 @@ only_created {a} {b} file made = record {
 pub wal_stays : {a b : DiskTold} (wal : Wal) (file : ℕ) (P : Option (List ℕ) → Type 0) → Passes a b → OnlyFile file P a b → wal.log.file ≢ file → IsReady wal a → IsReady wal b × (operations wal b ≡ operations wal a)
 wal_stays {a} {b} wal file P passes only apart ready =
     let reads : b.reads wal.log.file ≡ a.reads wal.log.file = only.others wal.log.file apart in
-    let same : operations wal b ≡ operations wal a = ap (λ (o : Option (List ℕ)). whole_operations (read_as_log o)) reads in (
+    let same : operations wal b ≡ operations wal a = ap (λ (o : Option (List ℕ)). operations_in (read_as_log o)) reads in (
       record {
         kind = ready.kind;
         rest = (rest_stays wal.log file P passes only apart ready.rest).0;

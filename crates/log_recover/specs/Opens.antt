@@ -2,8 +2,8 @@
 --
 -- File 1 is the mark that the store is whole, and file 3 its write-ahead log. Without the mark the store is a new one.
 -- With it the operations of the log are the store, where the log is whole, each family is `default`, and the sequence
--- numbers rise from above 0 on.
-use Rattle.std.specs.Prelude.{◌≡◌, ◌==◌, ◌&&◌, nat_lt, ℕ, List, [], ◌∷◌, Option, Some, None, Result, Ok, Err, if◌then◌else◌}
+-- numbers rise from above 0 on. Of several faults the first counts.
+use Rattle.std.specs.Prelude.{◌≡◌, ◌==◌, ◌&&◌, nat_lt, ℕ, List, [], ◌∷◌, Option, Some, None, Result, Ok, Err, if◌then◌else◌, unwrap_or}
 use Rattle.st_device.specs.Disk.{Image}
 use Rattle.st_wal.specs.Logged.{Operations, read_as_log}
 use Rattle.st_wal.specs.Logged.Operations.{Whole, Broken}
@@ -36,7 +36,7 @@ checked ops (Some at) = Err (log_damage at)
 
 abbrev pub log_opens : Operations → Result (List Logged) Damage
 log_opens (Whole ops end) = checked ops (first_log_fault 0 ops)
-log_opens (Broken at) = Err (log_damage at)
+log_opens (Broken ops at) = Err (log_damage (unwrap_or (first_log_fault 0 ops) at))
 
 -- by what the mark's file and the log's file hold
 abbrev pub files_open : Option (List ℕ) → Option (List ℕ) → Result (List Logged) Damage

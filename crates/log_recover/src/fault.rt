@@ -1,7 +1,6 @@
 ghost use Rattle.std.specs.Prelude.{◌≡◌};
 
 use st_device::{Failed, ReadFault};
-use st_gate::ReplayFault;
 use thiserror::Error;
 
 /// Why a store isn't opened.
@@ -36,20 +35,6 @@ impl From<ReadFault> for OpenFault {
         match fault {
             ReadFault::Failed => OpenFault::DiskFault,
             ReadFault::OutOfMemory => OpenFault::OutOfMemory,
-        }
-    }
-}
-
-impl From<ReplayFault> for OpenFault {
-    ghost use Rattle.log_recover.specs.Faults.{of_replay};
-
-    ghost from_gives = { λ fault e. e ≡ of_replay fault };
-
-    fn from(fault: ReplayFault) -> Self {
-        match fault {
-            ReplayFault::Damaged { file, at } => OpenFault::Damaged { file, at },
-            ReplayFault::DiskFault => OpenFault::DiskFault,
-            ReplayFault::OutOfMemory => OpenFault::OutOfMemory,
         }
     }
 }

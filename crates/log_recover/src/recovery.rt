@@ -11,7 +11,7 @@ use crate::settle::settle;
 use crate::{LOG_FILE, MARK_FILE};
 use st_base::List;
 use st_device::Disk;
-use st_wal::{Logged, Wal};
+use st_wal::{Logged, Wal, WalEnd};
 use std::alloc::Global;
 
 // The offset of the record of the first operation that isn't one of `default`, or whose number doesn't rise.
@@ -39,10 +39,13 @@ fn read_log<D: Disk>(alloc: Global, disk: &mut D) -> Result<(List<Logged>, Wal),
     ensures damage { IsHonest (D.tells disk.old) → IfErr result (IsDamageOf (opens (D.tells disk.old).reads)) }
     ensures disk { ReadsDisk (D.tells disk.old) (D.tells disk.new) (IsErrOf result OpenFault.DiskFault) }
 {
-    let (operations, wal) = Wal::replay(alloc, disk, LOG_FILE)?;
-    match first_fault(operations.as_slice()) {
-        None => Ok((operations, wal)),
-        Some(at) => Err(OpenFault::Damaged { file: LOG_FILE, at }),
+    let scanned = Wal::scan(alloc, disk, LOG_FILE)?;
+    if let Some(at) = first_fault(scanned.operations.as_slice()) {
+        return Err(OpenFault::Damaged { file: LOG_FILE, at });
+    }
+    match scanned.end {
+        WalEnd::Gate(wal) => Ok((scanned.operations, wal)),
+        WalEnd::Damage(at) => Err(OpenFault::Damaged { file: LOG_FILE, at }),
     }
 }
 

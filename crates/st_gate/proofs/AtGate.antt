@@ -6,9 +6,9 @@ use Rattle.std.proofs.lemmas.Bool.Decides.{nat_tests}
 use Rattle.std.specs.Int.{w32, from_le_bytes}
 use Rattle.st_code.specs.Fixed.{fixed32_at}
 use Rattle.st_device.specs.Disk.{There, Reads}
-use Rattle.st_gate.specs.Log.{Replayed, scan, front, record_at, told_length, told_sum, sum_of}
+use Rattle.st_gate.specs.Log.{Replayed, scan, front, gate_record, record_at, told_length, told_sum, sum_of}
 use Rattle.st_gate.specs.AtGate.{IsFoundAtGate}
-use Rattle.st_gate.specs.declared.record.AtGate.TheVariants.{End, Damage, Record}
+use Rattle.st_gate.specs.declared.record.AtGate.TheVariants.{End, Damage, Whole}
 use Rattle.st_gate.proofs.Scanning.{scan_skip, IsRecord, record_is, shut_scan, open_scan, none_scan}
 
 -- a fixed32 has four bytes
@@ -83,17 +83,19 @@ module _ (bytes : List ℕ) (at : ℕ) (inside : at < length bytes) (is_open : g
           ap (λ (l : List ℕ). scan at 0 l) gate_rest ∙ none_scan at (get_or bytes at 0) (drop (at + 1) bytes) is_open
           (record_sum (drop (at + 1) bytes) (λ e. differs (ap (λ (l : List ℕ). sum_of l) (sym payload_same) ∙ sym e ∙ sum_told)))
 
-      pub right_sum : sum_of payload ≡ sum → IsFoundAtGate at (Record payload) bytes
+      pub right_sum : sum_of payload ≡ sum → IsFoundAtGate at (Whole (gate_record at payload)) bytes
       right_sum same =
           let size : length payload ≡ told = ap length payload_is ∙ Rattle.std.proofs.lemmas.List.length-take-le told (drop (at + 9) bytes) (omega (arith, length-drop (at + 9) bytes)) in
           let whole : IsRecord (drop (at + 1) bytes) payload = record {
             fits = omega (arith, length_told, length-drop (at + 1) bytes);
             sum = sum_told ∙ sym same;
             is = sym payload_same;
-          } in
-          ap (λ (l : List ℕ). scan at 0 l) gate_rest ∙ open_scan at (get_or bytes at 0) (drop (at + 1) bytes) payload is_open (record_is (drop (at + 1) bytes) payload whole)
-          ∙ ap (λ (r : Replayed). front payload r) (scan_skip (at + 9 + length payload) (8 + length payload) (drop (at + 1) bytes)
-          ∙ ap (λ (l : List ℕ). scan (at + 9 + length payload) 0 l) (drop-drop (8 + length payload) (at + 1) bytes ∙ ap (λ (n : ℕ). drop n bytes) (let e : at + 1 + (8 + length payload) ≡ at + 9 + length payload = omega arith in e)))
+          } in (
+            refl,
+            ap (λ (l : List ℕ). scan at 0 l) gate_rest ∙ open_scan at (get_or bytes at 0) (drop (at + 1) bytes) payload is_open (record_is (drop (at + 1) bytes) payload whole)
+                ∙ ap (λ (r : Replayed). front (gate_record at payload) r) (scan_skip (at + 9 + length payload) (8 + length payload) (drop (at + 1) bytes)
+                ∙ ap (λ (l : List ℕ). scan (at + 9 + length payload) 0 l) (drop-drop (8 + length payload) (at + 1) bytes ∙ ap (λ (n : ℕ). drop n bytes) (let e : at + 1 + (8 + length payload) ≡ at + 9 + length payload = omega arith in e))),
+          )
 
 -- a read of a whole file
 pub whole_read : (n : ℕ) (before after bytes : List ℕ) → length before ≡ length bytes → Reads 0 n before after bytes → take n after ≡ bytes
