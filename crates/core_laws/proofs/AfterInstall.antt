@@ -11,11 +11,12 @@ use Rattle.core_model.specs.Pick.{joint_range}
 use Rattle.core_model.specs.Picture.{FileEntries, FamilyView, Job, Turn, Core, lowest_level, tables_in, is_input, is_flush, jobs_of, all_tables}
 use Rattle.core_model.specs.RelationParts.{ForEach, IsRunning, JobsApart, JobsRun, KeepsReads, HasOutputs, AreNoted, IsTurn, files_in_parts, input_tables}
 use Rattle.core_model.specs.Request.{IsRequest, NamesThere}
-use Rattle.core_model.specs.Step.{installed, without_job, turn_files, AreFresh}
+use Rattle.core_model.specs.Step.{without_job, turn_files, AreFresh}
 use Rattle.core_laws.proofs.Lists.{pairs_filter, pairs_join}
 use Rattle.core_laws.proofs.Members.{In, each_in, filter_swap, each_by_in, Differ, hits, hits_join, once_hits, hits_once}
 use Rattle.core_laws.proofs.Keys.{and_swaps}
 use Rattle.st_order.specs.Columns.{Pairwise}
+use Rattle.core_laws.proofs.ById.{installed_by_id, changed_id}
 
 pub lowest_le : (core : Core) → lowest_level core ≤ 6
 lowest_le core = go core.behind
@@ -53,7 +54,7 @@ fewer_run lowest_level jobs family test run = record {
 
 module _ (core : Core) (job : Job) (change : FamilyView → FamilyView) where
   abbrev next : Core
-  next = installed core job change
+  next = installed_by_id core job change
 
   -- what holds of the changed family and of the others
   pub for_next : (P : FamilyView → Type 0)

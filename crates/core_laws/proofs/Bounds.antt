@@ -29,7 +29,7 @@ use Rattle.core_model.specs.Event.{CompactInstalled, CompactPicked, Crashed, Dro
 use Rattle.core_model.specs.declared.reply.CoreReply.{CoreReply}
 use Rattle.core_model.specs.Picture.{Core, FamilyView, FileEntries, Job, Part, Turn, charge_of, memories, new_view}
 use Rattle.core_model.specs.Relation.{Represents}
-use Rattle.core_model.specs.Step.{Installs, IsWriteWithinLimits, Notes, RefusedOr, changed_id, has_memory, is_due, is_due_at, is_work_first, compact_job, flush_job, noted_job, put_in_memory, with_memory_entry, with_operations, without_turn}
+use Rattle.core_model.specs.Step.{Installs, IsWriteWithinLimits, Notes, RefusedOr, has_memory, is_due, is_due_at, is_work_first, compact_job, flush_job, noted_job, put_in_memory, with_memory_entry, with_operations, without_turn, changed_found, family_of_job}
 use Rattle.core_laws.proofs.CommitBegins.{no_refusal}
 use Rattle.core_laws.proofs.CommitReceived.{last_counts}
 use Rattle.core_laws.proofs.FamilyEvents.{core_names}
@@ -228,13 +228,10 @@ seal_small family h = ((let lt : 0 < sealed_charge = omega arith in lt), h)
 flushed_small : (output : FileEntries) (family : FamilyView) → HasSmallMemories family → HasSmallMemories (with_flushed output family)
 flushed_small output family h = (h.0, each_without_last IsSmallMemory family.sealed h.1)
 
-changed_small : (id : ℕ) (change : FamilyView → FamilyView) (families : List (List ℕ × FamilyView)) → ((family : FamilyView) → HasSmallMemories family → HasSmallMemories (change family)) → Each Small families → Each Small (changed_id id change families)
-changed_small id change [] keeps h = tt
-changed_small id change (named ∷ families) keeps h = (by (named.1.id == id), changed_small id change families keeps h.1)
-  where
-    by : (b : Bool) → HasSmallMemories (cond b (change named.1) named.1)
-    by true = keeps named.1 h.0
-    by false = h.0
+found_small : (found : Option (List ℕ × FamilyView)) (change : FamilyView → FamilyView) (families : List (List ℕ × FamilyView)) → ((family : FamilyView) → HasSmallMemories family → HasSmallMemories (change family)) → Each Small families
+    → Each Small (changed_found found change families)
+found_small None change families keeps h = h
+found_small (Some named) change families keeps h = each_changed HasSmallMemories families named.0 change keeps h
 
 notes_bounded : (core : Core) (job : Option Job) (answer : CoreReply) (after : Core) → Notes core job answer after → IsBounded core → IsBounded after
 notes_bounded core None answer after k bounded = absurd k
@@ -249,7 +246,7 @@ installs_bounded core (Some job) change answer after k keeps bounded =
       last = bounded.last;
       next_family = bounded.next_family;
       live = bounded.live;
-      small = changed_small job.family (change job) core.families (keeps job) bounded.small;
+      small = found_small (family_of_job core job) (change job) core.families (keeps job) bounded.small;
     })
 
 -- ---- a commit

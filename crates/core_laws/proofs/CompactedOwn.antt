@@ -23,6 +23,7 @@ use Rattle.core_laws.proofs.JobsBeside.{installed_leaves_running}
 use Rattle.core_laws.proofs.JobsKeepReads.{installed_leaves_reads, installed_levels_apart}
 use Rattle.core_laws.proofs.AfterInstall.{lowest_le, some_both, apart_back, is_other, fewer_run, for_next, jobs_left, keeps_next, noted_next, jobs_same, kept_same, files_next, not_input, outputs_differ}
 use Rattle.core_laws.proofs.Middle.{level_lt, parts_in_order}
+use Rattle.core_laws.proofs.ById.{installed_by_id, installed_same}
 
 -- ---- how often a file number stands there
 
@@ -74,7 +75,7 @@ module _ (core : Core) (job : Job) (outputs : List FileEntries) (own : IsSoundCo
   change = with_compacted job outputs
 
   abbrev next : Core
-  next = installed core job change
+  next = installed_by_id core job change
 
   module _ (named : List ℕ × FamilyView) (here : In named core.families) (is : (named.1.id == job.family) ≡ true) where
     abbrev family : FamilyView
@@ -189,9 +190,9 @@ module _ (core : Core) (job : Job) (outputs : List FileEntries) (own : IsSoundCo
   }
 
 pub compact_installed_own : CompactInstalledKeepsSound
-compact_installed_own core number outputs answer after own ids now does =
+compact_installed_own core number outputs answer after own ids names now does =
     let both = some_both (noted_job core number) (λ job. (is_flush job ≡ false) × AreOutputs core job outputs) (λ job. (answer ≡ cond (Rattle.core_model.specs.Step.is_there core job) Rattle.core_model.specs.declared.reply.CoreReply.TheVariants.Done Rattle.core_model.specs.declared.reply.CoreReply.TheVariants.FamilyGone) × (after ≡ installed core job (with_compacted job outputs))) now does in
-    subst IsSoundCore (sym both.3.1) (compacted_own core both.0 outputs own ids (found_in (λ (job : Job). job.number == number) both.0 core.jobs both.1).0 (some_level both.0 both.2.0) both.2.1)
+    subst IsSoundCore (sym (both.3.1 ∙ installed_same core both.0 (with_compacted both.0 outputs) names ids)) (compacted_own core both.0 outputs own ids (found_in (λ (job : Job). job.number == number) both.0 core.jobs both.1).0 (some_level both.0 both.2.0) both.2.1)
   where
     some_level : (job : Job) → is_flush job ≡ false → 1 ≤ job.level
     some_level job e = elim (cases_eq job.level 0) [ inl none ↦ absurd (eqb-false job.level 0 e none) | inr some ↦ omega arith ]

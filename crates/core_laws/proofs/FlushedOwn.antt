@@ -21,6 +21,7 @@ use Rattle.core_laws.proofs.JobsKeepReads.{flush_leaves_running}
 use Rattle.core_laws.proofs.AfterInstall.{lowest_le, some_both, apart_back, is_other, fewer_run, for_next, jobs_left, noted_next, jobs_same, kept_same, files_next, not_input, outputs_differ}
 use Rattle.core_laws.proofs.Middle.{parts_in_order}
 use Rattle.st_order.specs.Columns.{Pairwise}
+use Rattle.core_laws.proofs.ById.{installed_by_id, installed_same}
 
 pub each_without_last : {X : Type 0} (P : X → Type 0) (xs : List X) → Each P xs → Each P (without_last xs)
 each_without_last P [] each = tt
@@ -54,7 +55,7 @@ module _ (core : Core) (job : Job) (output : FileEntries) (own : IsSoundCore cor
   change = with_flushed output
 
   abbrev next : Core
-  next = installed core job change
+  next = installed_by_id core job change
 
   module _ (named : List ℕ × FamilyView) (here : In named core.families) (is : (named.1.id == job.family) ≡ true) where
     abbrev family : FamilyView
@@ -171,6 +172,6 @@ module _ (core : Core) (job : Job) (output : FileEntries) (own : IsSoundCore cor
   }
 
 pub flush_installed_own : FlushInstalledKeepsSound
-flush_installed_own core number output answer after own ids now does =
+flush_installed_own core number output answer after own ids names now does =
     let both = some_both (noted_job core number) (λ job. (is_flush job ≡ true) × AreOutputs core job (output ∷ [])) (λ job. (answer ≡ cond (Rattle.core_model.specs.Step.is_there core job) Rattle.core_model.specs.declared.reply.CoreReply.TheVariants.Done Rattle.core_model.specs.declared.reply.CoreReply.TheVariants.FamilyGone) × (after ≡ installed core job (with_flushed output))) now does in
-    subst IsSoundCore (sym both.3.1) (flushed_own core both.0 output own ids (found_in (λ (job : Job). job.number == number) both.0 core.jobs both.1).0 (eqb-true both.0.level 0 both.2.0) both.2.1)
+    subst IsSoundCore (sym (both.3.1 ∙ installed_same core both.0 (with_flushed output) names ids)) (flushed_own core both.0 output own ids (found_in (λ (job : Job). job.number == number) both.0 core.jobs both.1).0 (eqb-true both.0.level 0 both.2.0) both.2.1)

@@ -23,6 +23,8 @@ use Rattle.core_laws.proofs.ColumnsAfter.{compact_each, flush_each, each_at_numb
 use Rattle.core_laws.proofs.Falls.{installed_falls, flushed_falls}
 use Rattle.core_laws.proofs.CompactedOwn as c
 use Rattle.core_laws.proofs.FlushedOwn as f
+use Rattle.core_laws.proofs.ById.{installed_by_id, installed_same}
+use Rattle.core_laws.proofs.FamilyEvents.{core_names}
 
 -- a number that a read of the model takes is one that the job keeps
 kept_number : (core : Core) (state : ModelState) (family : FamilyView) (job : Job) (number : ℕ) → Represents core state → KeepsReads core family job → Contains (read_numbers state) number → IsKept job number
@@ -32,7 +34,7 @@ kept_number core state family job number s keeps there =
     (subst (λ (live : List Snapshot). Each (IsKept job) (core.last ∷ Rattle.std.proofs.Common.map (λ (one : Snapshot). one.number) live)) s.same.live (read_kept core family job keeps))) there
 
 compact_columns : (core : Core) (state : ModelState) (job : Job) (outputs : List FileEntries) → Represents core state → In job core.jobs → 1 ≤ job.level → AreOutputs core job outputs
-    → HasColumns (installed core job (with_compacted job outputs)) state
+    → HasColumns (installed_by_id core job (with_compacted job outputs)) state
 compact_columns core state job outputs s there positive outs = record {
   reads = both_next core state job (with_compacted job outputs) (λ family. refl) (ReadsAs state)
       (λ named kept here is holds number key read. compact_reads core named.1 job outputs (compacts named here is) (outputs_of named here is) (keeps named here is) number key
@@ -70,7 +72,7 @@ compact_columns core state job outputs s there positive outs = record {
     within named here = each_in (λ (one : List ℕ × FamilyView). NumbersWithin core.last one.1) named core.families s.within here
 
 flush_columns : (core : Core) (state : ModelState) (job : Job) (output : FileEntries) → Represents core state → In job core.jobs → job.level ≡ 0 → AreOutputs core job (output ∷ [])
-    → HasColumns (installed core job (with_flushed output)) state
+    → HasColumns (installed_by_id core job (with_flushed output)) state
 flush_columns core state job output s there flushes outs = record {
   reads = both_next core state job (with_flushed output) (λ family. refl) (ReadsAs state)
       (λ named kept here is holds number key read. ap Rattle.st_model.specs.Read.value_of (marks named here is number key read) ∙ holds number key read) s.reads;
@@ -113,13 +115,13 @@ flush_columns core state job output s there flushes outs = record {
 pub flush_installed_is_step : (number : ℕ) (output : FileEntries) → EventRefines (FlushInstalled number output)
 flush_installed_is_step number output = flush_installed_refines number output (λ core state answer after s now does.
     let both = some_both (noted_job core number) (λ job. (is_flush job ≡ true) × AreOutputs core job (output ∷ [])) (λ job. (answer ≡ cond (is_there core job) Done FamilyGone) × (after ≡ installed core job (with_flushed output))) now does in
-    subst (λ (next : Core). HasColumns next state) (sym both.3.1)
+    subst (λ (next : Core). HasColumns next state) (sym (both.3.1 ∙ installed_same core both.0 (with_flushed output) (core_names core state s) (stands_own core state s).1))
     (flush_columns core state both.0 output s (found_in (λ (job : Job). job.number == number) both.0 core.jobs both.1).0 (eqb-true both.0.level 0 both.2.0) both.2.1))
 
 pub compact_installed_is_step : (number : ℕ) (outputs : List FileEntries) → EventRefines (CompactInstalled number outputs)
 compact_installed_is_step number outputs = compact_installed_refines number outputs (λ core state answer after s now does.
     let both = some_both (noted_job core number) (λ job. (is_flush job ≡ false) × AreOutputs core job outputs) (λ job. (answer ≡ cond (is_there core job) Done FamilyGone) × (after ≡ installed core job (with_compacted job outputs))) now does in
-    subst (λ (next : Core). HasColumns next state) (sym both.3.1)
+    subst (λ (next : Core). HasColumns next state) (sym (both.3.1 ∙ installed_same core both.0 (with_compacted both.0 outputs) (core_names core state s) (stands_own core state s).1))
     (compact_columns core state both.0 outputs s (found_in (λ (job : Job). job.number == number) both.0 core.jobs both.1).0 (some_level both.0 both.2.0) both.2.1))
   where
     some_level : (job : Job) → is_flush job ≡ false → 1 ≤ job.level

@@ -26,7 +26,7 @@ use Rattle.core_model.specs.Picture.{FileEntries, FamilyView, Job, Turn, Core, l
 use Rattle.core_model.specs.Request.{IsRequest, NamesThere}
 use Rattle.core_model.specs.Run.{IsCoreStep, Refines, accepts, EventDoes}
 use Rattle.core_model.specs.RelationParts.{ForBoth, HasRanges, HasWritten, IsView, IsRunning, IsCompacting, IsInputLevel, IsTurn, JobsRun, KeepsReads, HasOutputs, files_in_parts}
-use Rattle.core_model.specs.Step.{installed, changed_id, noted_job, is_there, AreOutputs, AreFresh, IsNow, without_job, turn_files, flush_job, compact_job}
+use Rattle.core_model.specs.Step.{installed, noted_job, is_there, AreOutputs, AreFresh, IsNow, without_job, turn_files, flush_job, compact_job}
 use Rattle.core_laws.proofs.Lists.{pairs_filter, at_set}
 use Rattle.core_laws.proofs.Members.{In, filter_swap, each_in, in_filter, found_in, pairs_of_all, pairs_map, map_pairs, Differ, hits}
 use Rattle.core_laws.proofs.InstalledLevels.{installed_at}
@@ -35,6 +35,8 @@ use Rattle.core_laws.proofs.CompactedOwn.{compact_installed_own, compacted_hits}
 use Rattle.core_laws.proofs.FlushedOwn.{flush_installed_own, flushed_hits, each_without_last}
 use Rattle.core_laws.proofs.PickedOwn.{flush_picked_own, compact_picked_own, noted_some}
 use Rattle.st_order.specs.Columns.{Pairwise}
+use Rattle.core_laws.proofs.ById.{changed_id, installed_by_id, installed_same}
+use Rattle.core_laws.proofs.FamilyEvents.{core_names}
 
 -- ---- of `Represents`
 
@@ -168,7 +170,7 @@ changed_value (named ∷ families) id change name after e = go (is_at (bytes_cmp
 
 module _ (core : Core) (state : ModelState) (job : Job) (change : FamilyView → FamilyView) (id_stays : (family : FamilyView) → (change family).id ≡ family.id) where
   abbrev next : Core
-  next = installed core job change
+  next = installed_by_id core job change
 
   pub both_next : (R : FamilyView → ModelFamily → Type 0) → ((named : List ℕ × FamilyView) (kept : ModelFamily) → In named core.families → (named.1.id == job.family) ≡ true → R named.1 kept → R (change named.1) kept)
       → ForBoth core state R → ForBoth next state R
@@ -259,12 +261,13 @@ flush_installed_refines number output leaves core state answer after s (inr none
 flush_installed_refines number output leaves core state answer after s (inl does) =
     let o = stands_own core state s in
     let both = some_both (noted_job core number) (λ job. (is_flush job ≡ true) × AreOutputs core job (output ∷ [])) (λ job. (answer ≡ cond (is_there core job) Done FamilyGone) × (after ≡ installed core job (with_flushed output))) does.0 does.1 in
-    let own : IsSoundCore after = flush_installed_own core number output answer after o.0 o.1 does.0 does.1 in
+    let own : IsSoundCore after = flush_installed_own core number output answer after o.0 o.1 (core_names core state s) does.0 does.1 in
+    let at : after ≡ installed_by_id core both.0 (with_flushed output) = both.3.1 ∙ installed_same core both.0 (with_flushed output) (core_names core state s) o.1 in
     record {
       answer_of = λ now. tt;
-      stands = subst (Represents after) (sym (either (accepts answer) state)) (subst (λ (next : Core). Represents next state) (sym both.3.1)
-          (installed_stands core state both.0 (with_flushed output) (λ family. refl) (output ∷ []) s (subst IsSoundCore both.3.1 own)
-          (subst (λ (next : Core). HasColumns next state) both.3.1 (leaves core state answer after s does.0 does.1)) both.2.1.fresh (flushed_hits output)
+      stands = subst (Represents after) (sym (either (accepts answer) state)) (subst (λ (next : Core). Represents next state) (sym at)
+          (installed_stands core state both.0 (with_flushed output) (λ family. refl) (output ∷ []) s (subst IsSoundCore at own)
+          (subst (λ (next : Core). HasColumns next state) at (leaves core state answer after s does.0 does.1)) both.2.1.fresh (flushed_hits output)
           (λ named there is flag. flush_level named.1 output (each_in (λ (one : List ℕ × FamilyView). IsView one.1) named core.families s.views there).levels)
           (λ P family each. (each.0, each_without_last P family.sealed each.1))));
     }
@@ -274,13 +277,14 @@ compact_installed_refines number outputs leaves core state answer after s (inr n
 compact_installed_refines number outputs leaves core state answer after s (inl does) =
     let o = stands_own core state s in
     let both = some_both (noted_job core number) (λ job. (is_flush job ≡ false) × AreOutputs core job outputs) (λ job. (answer ≡ cond (is_there core job) Done FamilyGone) × (after ≡ installed core job (with_compacted job outputs))) does.0 does.1 in
-    let own : IsSoundCore after = compact_installed_own core number outputs answer after o.0 o.1 does.0 does.1 in
+    let own : IsSoundCore after = compact_installed_own core number outputs answer after o.0 o.1 (core_names core state s) does.0 does.1 in
+    let at : after ≡ installed_by_id core both.0 (with_compacted both.0 outputs) = both.3.1 ∙ installed_same core both.0 (with_compacted both.0 outputs) (core_names core state s) o.1 in
     let there : In both.0 core.jobs = (found_in (λ (job : Job). job.number == number) both.0 core.jobs both.1).0 in
     record {
       answer_of = λ now. tt;
-      stands = subst (Represents after) (sym (either (accepts answer) state)) (subst (λ (next : Core). Represents next state) (sym both.3.1)
-          (installed_stands core state both.0 (with_compacted both.0 outputs) (λ family. refl) outputs s (subst IsSoundCore both.3.1 own)
-          (subst (λ (next : Core). HasColumns next state) both.3.1 (leaves core state answer after s does.0 does.1)) both.2.1.fresh (compacted_hits both.0 outputs)
+      stands = subst (Represents after) (sym (either (accepts answer) state)) (subst (λ (next : Core). Represents next state) (sym at)
+          (installed_stands core state both.0 (with_compacted both.0 outputs) (λ family. refl) outputs s (subst IsSoundCore at own)
+          (subst (λ (next : Core). HasColumns next state) at (leaves core state answer after s does.0 does.1)) both.2.1.fresh (compacted_hits both.0 outputs)
           (λ named here is flag. compact_level (lowest_level core) named.1 both.0 outputs (each_in (λ (one : List ℕ × FamilyView). IsView one.1) named core.families s.views here).levels
           (cond-true core.behind 5 6 flag)
           ((each_in (IsRunning (lowest_level core) named.1) both.0 (jobs_of core named.1)

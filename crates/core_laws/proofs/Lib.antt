@@ -27,12 +27,13 @@ mod AfterInstall
 mod CompactedOwn
 mod FlushedOwn
 mod PickedOwn
-mod JobEvents
+pub mod JobEvents
 mod TwoJobs
 mod ColumnsAfter
 mod InstallEvents
 mod ByPlace
 pub mod NamedLists
+pub mod ById
 mod FamilyPair
 pub mod WrittenFamily
 mod ChangesSound
@@ -41,7 +42,7 @@ mod PlainEvents
 pub mod ToldByColumns
 mod ReopenedFamily
 pub mod CrashEvent
-mod FamilyEvents
+pub mod FamilyEvents
 mod TurnEvents
 pub mod Steps
 mod LevelRule

@@ -1,14 +1,17 @@
 -- The contents of what readers see are those of each state that it stands for.
 use Rattle.std.proofs.Common.{◌≡◌, ℕ, Bool, true, false, List, [], ◌∷◌, map, None, refl, sym, ap, ap₂, subst, ◌∙◌}
 use Rattle.st_base.specs.declared.entry.Entry.{Entry}
-use Rattle.st_model.specs.Contents.{as_entry, contents_of_family, sorted_ranges}
+use Rattle.st_model.specs.Contents.{as_entry, contents_of_family, opened, sorted_ranges}
+use Rattle.st_model.specs.declared.contents.Contents.{Contents}
+use Rattle.core_model.specs.Crash.{known_keys}
+use Rattle.core_laws.proofs.OfState.{state_stands}
 use Rattle.st_model.specs.Sound.{KeysRise}
 use Rattle.st_model.specs.declared.contents.ContentsFamily.{ContentsFamily}
 use Rattle.st_model.specs.declared.state.ModelFamily.{ModelFamily}
 use Rattle.st_model.specs.declared.state.ModelState.{ModelState}
 use Rattle.st_model.specs.declared.state.Snapshot.{Snapshot}
 use Rattle.core_model.specs.Picture.{Core, FamilyView}
-use Rattle.core_model.specs.StatePicture.{StateHasContents, StatePicture, state_contents_of, state_ranges}
+use Rattle.core_model.specs.StatePicture.{StateIsOpened, state_of, StateHasContents, StatePicture, state_contents_of, state_ranges}
 use Rattle.core_laws.proofs.FamilyPair.{Pair, ids_zip, pairs_of_state}
 use Rattle.core_laws.proofs.NamedLists.{Zipped, zip_both, zip_right, zip_to}
 use Rattle.core_laws.proofs.ReopenedFamily.{charged_alike}
@@ -85,3 +88,7 @@ state_has_contents picture place state stands =
     besides = zip_both (Pair state.behind picture.last live) (λ (family : FamilyView) (kept : ModelFamily). KeysRise kept.base × (state.behind ≡ false → kept.ranges ≡ [])) picture.families state.families
         (subst (λ b. Zipped (Pair b picture.last live) picture.families state.families) stands.same.behind pairs)
         (zip_both (λ (family : FamilyView) (kept : ModelFamily). KeysRise kept.base) (λ (family : FamilyView) (kept : ModelFamily). state.behind ≡ false → kept.ranges ≡ []) picture.families state.families sound_each (ranged_each state.behind refl))
+
+pub state_is_opened : StateIsOpened
+state_is_opened core state first stands =
+    ap (λ (found : Contents). opened found (known_keys core)) (sym (state_has_contents (state_of core) core.place state (state_stands core state stands)))

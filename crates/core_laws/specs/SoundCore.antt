@@ -1,5 +1,7 @@
 -- Of `Represents` what speaks of the core alone: levels, jobs, tables.
-use Rattle.std.specs.Prelude.{ℕ, Bool, ◌≡◌, ◌<◌, IsTrue, List}
+use Rattle.std.specs.Ordering.{is_eq}
+use Rattle.st_base.specs.Bytes.{bytes_cmp}
+use Rattle.std.specs.Prelude.{ℕ, Bool, false, ◌≡◌, ◌<◌, IsTrue, List}
 use Rattle.std.specs.List.{AllByRecursion as Each}
 use Rattle.st_model.specs.declared.state.ModelState.{ModelState}
 use Rattle.core_model.specs.Event.{Event, FlushPicked, FlushInstalled, CompactPicked, CompactInstalled}
@@ -24,17 +26,21 @@ pub record IsSoundCore (core : Core) : Type 0 where
 abbrev pub IdsDiffer : Core → Type 0
 IdsDiffer core = Pairwise (λ one other. one.1.id ≡ other.1.id → ⊥) core.families
 
+-- no two families have one name
+abbrev pub NamesApart : Core → Type 0
+NamesApart core = Pairwise (λ one other. is_eq (bytes_cmp other.0 one.0) ≡ false) core.families
+
 -- an installed compaction leaves a sound core sound
 abbrev pub CompactInstalledKeepsSound : Type 0
 CompactInstalledKeepsSound = (core : Core) (number : ℕ) (outputs : List FileEntries) (answer : CoreReply) (after : Core)
-    → IsSoundCore core → IdsDiffer core
+    → IsSoundCore core → IdsDiffer core → NamesApart core
     → IsNow core (CompactInstalled number outputs) → EventDoes core (CompactInstalled number outputs) answer after
     → IsSoundCore after
 
 -- an installed flush leaves a sound core sound
 abbrev pub FlushInstalledKeepsSound : Type 0
 FlushInstalledKeepsSound = (core : Core) (number : ℕ) (output : FileEntries) (answer : CoreReply) (after : Core)
-    → IsSoundCore core → IdsDiffer core
+    → IsSoundCore core → IdsDiffer core → NamesApart core
     → IsNow core (FlushInstalled number output) → EventDoes core (FlushInstalled number output) answer after
     → IsSoundCore after
 

@@ -4,7 +4,7 @@ ghost use Rattle.core_laws.specs.Laws.{NewCoreRepresents, EventDoesSomething, Co
 ghost use Rattle.core_laws.specs.Claims.{PickedRuns, CompactionExists, CompactionIsOne};
 ghost use Rattle.core_laws.specs.Underway.{FileKeepsUnderway, CommitStands};
 ghost use Rattle.core_model.specs.Bounded.{CrashEndsBounded, NewCoreIsBounded, StepKeepsBounds, StepKeepsCapacity};
-ghost use Rattle.core_model.specs.StatePicture.{CoreRepresentsState, StateHasContents};
+ghost use Rattle.core_model.specs.StatePicture.{CoreRepresentsState, StateHasContents, StateIsOpened};
 
 /// Each event is a step of the list model: its reply is the model's, and the core after it stands for the model's
 /// next state.
@@ -77,10 +77,12 @@ pub fn commit_stands()
 {}
 
 /// What a core stands for, its state stands for at the core's place: what is published of the core answers reads as
-/// the model does. Its contents are those of each state that it stands for.
+/// the model does. Its contents are those of each state that it stands for, and with its keys they tell the state after
+/// a stop and an opening.
 pub fn represents_state()
     ensures reads { CoreRepresentsState }
     ensures contents { StateHasContents }
+    ensures opened { StateIsOpened }
 {}
 
 /// The rows of a memtable or a table are a sorted run, as representation asks; a sorted run whose numbers have 64

@@ -1,10 +1,11 @@
 -- Representation over a state alone: what is published of the core,
 -- without jobs, turn, capacity and the next family id.
-use Rattle.std.specs.Prelude.{ℕ, Bool, ◌≡◌, IsTrue, List, [], map, Some, if◌then◌else◌}
+use Rattle.std.specs.Prelude.{ℕ, Bool, ◌≡◌, IsTrue, List, [], flat_map, map, Some, if◌then◌else◌}
+use Rattle.st_base.specs.Range.{keys_of}
 use Rattle.std.specs.List.{AllByRecursion as Each}
 use Rattle.st_base.specs.Map.{value_at}
 use Rattle.st_base.specs.declared.entry.KeyRange.{KeyRange}
-use Rattle.st_model.specs.Contents.{as_entry, contents, kept_marks}
+use Rattle.st_model.specs.Contents.{as_entry, contents, kept_marks, opened}
 use Rattle.st_model.specs.declared.contents.Contents.{Contents}
 use Rattle.st_model.specs.declared.contents.ContentsFamily.{ContentsFamily}
 use Rattle.st_model.specs.declared.state.ModelFamily.{ModelFamily}
@@ -14,7 +15,9 @@ use Rattle.st_model.specs.Sound.{IsSound}
 use Rattle.st_model.specs.State.{family_of}
 use Rattle.core_model.specs.Crash.{newest_of}
 use Rattle.core_model.specs.Picture.{FamilyView, Core, level_at, table_range, walk}
+use Rattle.core_model.specs.Event.{Crashed}
 use Rattle.core_model.specs.Relation.{Represents}
+use Rattle.core_model.specs.Run.{state_after_event}
 use Rattle.core_model.specs.RelationParts.{ids_of, model_ids, ReadsAs, HasModelMarks, NumbersFall, NumbersWithin, LevelsApart, HasRanges, IsView, HasKnownKeys, HasWritten}
 
 -- what readers see of the core
@@ -107,3 +110,12 @@ state_contents picture = record {
 abbrev pub StateHasContents : Type 0
 StateHasContents = (picture : StatePicture) (place : ℕ) (state : ModelState) → RepresentsState picture place state
     → state_contents picture ≡ contents state
+
+-- the keys of all entries of each family: those that are known where the store is opened again
+abbrev pub state_known : StatePicture → List (List (List ℕ))
+state_known picture = map (λ named. flat_map keys_of (walk named.1)) picture.families
+
+-- so the state after a stop and an opening is told by the picture alone
+abbrev pub StateIsOpened : Type 0
+StateIsOpened = (core : Core) (state : ModelState) (first : ℕ) → Represents core state
+    → state_after_event core state (Crashed first) ≡ opened (state_contents (state_of core)) (state_known (state_of core))

@@ -108,10 +108,15 @@ noted_job core number = find (λ job. job.number == number) core.jobs
 abbrev pub without_job : ℕ → List Job → List Job
 without_job number jobs = filter (λ job. not (job.number == number)) jobs
 
--- the families with the job's one changed
-abbrev pub changed_id : ℕ → (FamilyView → FamilyView) → List (List ℕ × FamilyView) → List (List ℕ × FamilyView)
-changed_id id change families =
-    map (λ named. (named.0, (if named.1.id == id then change named.1 else named.1))) families
+-- the job's family with its name, where it is still there
+abbrev pub family_of_job : Core → Job → Option (List ℕ × FamilyView)
+family_of_job core job = find (λ named. named.1.id == job.family) core.families
+
+-- the families with the one that was found changed, at its name
+abbrev pub changed_found : Option (List ℕ × FamilyView) → (FamilyView → FamilyView) → List (List ℕ × FamilyView)
+    → List (List ℕ × FamilyView)
+changed_found None change families = families
+changed_found (Some named) change families = changed_at families named.0 change
 
 -- whether the job's family is still there
 abbrev pub is_there : Core → Job → Bool
@@ -120,7 +125,7 @@ is_there core job = list_any (λ named. named.1.id == job.family) core.families
 -- the core with the job's family changed, and the job forgotten
 abbrev pub installed : Core → Job → (FamilyView → FamilyView) → Core
 installed core job change = record core {
-  families = changed_id job.family change core.families;
+  families = changed_found (family_of_job core job) change core.families;
   jobs = without_job job.number core.jobs;
 }
 

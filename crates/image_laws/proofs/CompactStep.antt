@@ -11,7 +11,6 @@ use Rattle.core_model.specs.Compaction.{with_compacted}
 use Rattle.core_model.specs.Relation.{Represents}
 use Rattle.core_model.specs.Picture.{FileEntries, FamilyView, Job, Core, lowest_level}
 use Rattle.core_model.specs.RelationParts.{IsRunning}
-use Rattle.core_model.specs.Step.{installed}
 use Rattle.manifest_edits.specs.Edits.{Placement, NamedFamily, Named, GroupRecord, has_id, has_table, AddsFile, may_place}
 use Rattle.store_image.specs.Opens.{holds_table, is_table}
 use Rattle.store_image.specs.Parts.{HasTableFile, ImageParts, log_ops_of, file_entries}
@@ -30,6 +29,7 @@ use Rattle.manifest_edits.specs.Groups.{IsGroup}
 use Rattle.manifest_edits.specs.CallEdits.{compact_edits}
 use Rattle.store_image.specs.Calls.{IsImageOf, files_with, IsNewFile, output_placements, compact_group, compact_named, IsInstallingCompaction}
 use Rattle.st_order.specs.Columns.{Pairwise}
+use Rattle.core_laws.proofs.ById.{installed_by_id}
 
 not_flush : (level : ℕ) → (level == 0) ≡ false → 1 ≤ level
 not_flush level e = let no = eqb-false level 0 e in omega (arith, no)
@@ -131,17 +131,17 @@ compact_adds P id level (file ∷ inputs) tables last h = (tt, compact_adds P id
 
 -- with all records the outputs have taken the place of the inputs, and the state is the same
 pub compact_written : (core : Core) (state : ModelState) (files : EngineFiles) (parts other : ImageParts) (flag : Bool) (at : ℕ → ℕ) (number : ℕ) (job : Job) (tables : List FileEntries) → IsInstallingCompaction core state files parts number job tables
-    → Represents (installed core job (with_compacted job tables)) state
+    → Represents (installed_by_id core job (with_compacted job tables)) state
     → Each (λ table. HasTableFile other table) tables
     → HasMore files parts other (compact_group at core job tables)
-    → IsImageOf (installed core job (with_compacted job tables)) state (files_with files (compact_named core job tables files.named)) [] other flag
+    → IsImageOf (installed_by_id core job (with_compacted job tables)) state (files_with files (compact_named core job tables files.named)) [] other flag
 compact_written core state files parts other flag at number job tables is stands found has =
     let low = not_flush job.level is.kind in
     let runs = runs_where core job low (noted_runs core state number job is.stands is.noted_is) in
     let within = level_within (lowest_level core) job core.families runs is.there in
     let small = lowest_within core in
     let holds = holds_frame core parts other files.named has.same is.tied.holds in
-    step_named core (installed core job (with_compacted job tables)) state files (compact_named core job tables files.named) parts other flag (compact_group at core job tables) stands is.tied refl
+    step_named core (installed_by_id core job (with_compacted job tables)) state files (compact_named core job tables files.named) parts other flag (compact_group at core job tables) stands is.tied refl
     (compact_is_group core state files parts at number job tables is) has refl
     (apart_named files (compact_named core job tables files.named) at (compact_edits job.family job.files (output_placements job.level tables) core.last) (compact_is_group core state files parts at number job tables is)
     (compact_adds (IsUnwritten files) job.family job.level job.files tables core.last is.unwritten) is.tied.apart)

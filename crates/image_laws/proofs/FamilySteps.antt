@@ -1,5 +1,5 @@
 -- Making and dropping a family, rolling the log, sealing a memtable, and the events that leave the disk alone.
-use Rattle.std.proofs.Common.{◌≡◌, ℕ, ◌<◌, Bool, true, false, cond, ◌&&◌, ◌||◌, not, List, [], ◌∷◌, ◌++◌, Some, None, refl, sym, ap, subst, ◌∙◌, is_eq, arith}
+use Rattle.std.proofs.Common.{◌≡◌, ℕ, ◌<◌, Bool, true, false, cond, ◌&&◌, ◌||◌, not, List, [], ◌∷◌, ◌++◌, Option, Some, None, refl, sym, ap, subst, ◌∙◌, is_eq, arith}
 use Rattle.std.specs.Prelude.{◌≢◌, IsFalse, nat_lt, ◌==◌, is_some}
 use Rattle.std.specs.List.{list_any, AllByRecursion as Each, AllZip}
 use Rattle.std.proofs.lemmas.Bool.{false≢true, le-ltb, ltb-true}
@@ -9,7 +9,7 @@ use Rattle.st_model.specs.declared.state.ModelState.{ModelState}
 use Rattle.base_laws.proofs.Lists.{each_as, each_join}
 use Rattle.core_model.specs.Relation.{Represents}
 use Rattle.core_model.specs.Picture.{Core, FamilyView, Job}
-use Rattle.core_model.specs.Step.{with_family, without_family, with_sealed, installed, is_there, changed_id}
+use Rattle.core_model.specs.Step.{with_family, without_family, with_sealed, installed, is_there, changed_found}
 use Rattle.manifest_edits.specs.Edits.{AddFamily, DropFamily, AddLog, Last, NamedFamily, GroupRecord, put_number, table_files}
 use Rattle.store_image.specs.Parts.{ImageParts, log_ops_of}
 use Rattle.store_image.specs.Steps.{HasMore}
@@ -26,6 +26,7 @@ use Rattle.manifest_edits.specs.Logs.{LogFound, LogOp}
 use Rattle.manifest_edits.specs.Groups.{IsGroup}
 use Rattle.store_image.specs.Calls.{IsImageOf, files_with}
 use Rattle.store_image.specs.Calls.{IsEngineAt, make_group, make_named, drop_group, drop_named, roll_group, roll_named, roll_files, HasSameDiskFields, Ties}
+use Rattle.core_laws.proofs.ById.{not_found}
 
 -- ---- a family is made
 
@@ -206,15 +207,7 @@ pub fields_open : (core after : Core) (state : ModelState) (files : EngineFiles)
 fields_open core after state files parts flag tied same stands = image_of after state files parts flag stands (fields_tie core after same files _ parts tied)
 
 -- an install of a family that is gone
-pub gone_families : (id : ℕ) (change : FamilyView → FamilyView) (cs : List (List ℕ × FamilyView)) → list_any (λ here. here.1.id == id) cs ≡ false → changed_id id change cs ≡ cs
-gone_families id change [] e = refl
-gone_families id change (c ∷ cs) e = go (c.1.id == id) e (gone_families id change cs)
-  where
-    go : (b : Bool) → (b || list_any (λ here. here.1.id == id) cs) ≡ false → (list_any (λ here. here.1.id == id) cs ≡ false → changed_id id change cs ≡ cs) → (c.0, cond b (change c.1) c.1) ∷ changed_id id change cs ≡ c ∷ cs
-    go true e rest = absurd (false≢true (sym e))
-    go false e rest = ap (λ l. c ∷ l) (rest e)
-
 pub gone_opens : (core : Core) (state : ModelState) (files : EngineFiles) (begun : List GroupRecord) (parts : ImageParts) (flag : Bool) (job : Job) (change : FamilyView → FamilyView) → IsTiedToImage core files begun parts → IsFalse (is_there core job) → Represents (installed core job change) state
     → IsImageOf (installed core job change) state files begun parts flag
 gone_opens core state files begun parts flag job change tied gone stands =
-    fields_open core (installed core job change) state files parts flag tied (record { behind = refl; families = gone_families job.family change core.families gone; last = refl; next_family = refl }) stands
+    fields_open core (installed core job change) state files parts flag tied (record { behind = refl; families = ap (λ (found : Option (List ℕ × FamilyView)). changed_found found change core.families) (not_found job.family core.families gone); last = refl; next_family = refl }) stands

@@ -12,7 +12,6 @@ use Rattle.core_laws.proofs.Lists.{filter_join}
 use Rattle.core_model.specs.Compaction.{without_last, with_flushed as flushed_view}
 use Rattle.core_model.specs.Picture.{FileEntries, FamilyView, Core, Job, level_at, runs_of, tables_in}
 use Rattle.core_model.specs.RelationParts.{NumbersWithin}
-use Rattle.core_model.specs.Step.{installed, changed_id}
 use Rattle.manifest_edits.specs.Edits.{Placement, NamedFamily, Named, changed_named}
 use Rattle.store_image.specs.Parts.{ImageParts, log_ops_of, counts_for, counted_entries, table_at, image_levels, placed_at, by_key}
 use Rattle.store_image.specs.Opens.{is_sound, last_op}
@@ -23,6 +22,7 @@ use Rattle.image_laws.proofs.Best.{column_append}
 use Rattle.image_laws.proofs.Logs.{logs_stay, counts_stay, each_stays}
 use Rattle.manifest_edits.specs.Logs.{LogOp, log_op_entry, records_in}
 use Rattle.st_order.specs.Columns.{Pairwise, column, of_key}
+use Rattle.core_laws.proofs.ById.{changed_id, installed_by_id}
 
 -- ---- filters
 
@@ -311,7 +311,7 @@ all_families parts logs gone last id oldest placed output (c ∷ cs) (n ∷ ns) 
 -- an installed flush keeps the tie
 pub flush_holds : (core : Core) (parts : ImageParts) (named : Named) (job : Job) (oldest : List Entry) (placed : Placement) (output : FileEntries) (gone : ℕ → Bool)
     → HoldsNamed core parts named → Each (λ one. NumbersWithin core.last one.1) core.families → IsFlushGroup core parts named job.family oldest placed output gone
-    → HoldsNamed (installed core job (flushed_view output)) parts (flushed_named job.family placed (greatest_of oldest) gone core.last named)
+    → HoldsNamed (installed_by_id core job (flushed_view output)) parts (flushed_named job.family placed (greatest_of oldest) gone core.last named)
 flush_holds core parts named job oldest placed output gone holds within group = record {
   families = all_families parts named.logs gone core.last job.family oldest placed output core.families named.families holds.families group.family within group.spent;
   logs = (logs_stay parts gone named.logs 0 0 (omega arith) holds.logs).none;

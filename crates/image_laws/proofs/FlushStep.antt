@@ -12,7 +12,6 @@ use Rattle.core_model.specs.Compaction.{without_last, with_flushed as flushed_vi
 use Rattle.core_model.specs.Relation.{Represents}
 use Rattle.core_model.specs.Picture.{FileEntries, FamilyView, Job, Core, lowest_level}
 use Rattle.core_model.specs.RelationParts.{IsRunning, IsFlush, IsView}
-use Rattle.core_model.specs.Step.{installed}
 use Rattle.manifest_edits.specs.Edits.{Placement, AddTable, Flushed, Last, DropLog, NamedFamily, Named, GroupRecord, has_id, has_table, has_log, edited, edited_all, with_table, with_flushed_number, is_last_edit, ends_with_last, AddsFile, may_place}
 use Rattle.store_image.specs.Opens.{holds_table, is_table}
 use Rattle.store_image.specs.Parts.{HasTableFile, ImageParts, log_ops_of, file_entries, counts_for}
@@ -33,6 +32,7 @@ use Rattle.store_image.specs.Calls.{FilesAllDiffer}
 use Rattle.manifest_edits.specs.CallEdits.{flush_placement, flush_edits}
 use Rattle.store_image.specs.Calls.{IsImageOf}
 use Rattle.store_image.specs.Calls.{first_run, flush_families, flushed_memory, flush_group, flush_named, flush_files, IsInstallingFlush}
+use Rattle.core_laws.proofs.ById.{installed_by_id}
 
 -- ---- the edits, with a list of logs that go
 
@@ -130,11 +130,11 @@ drops_add P [] last = (tt, tt)
 drops_add P (file ∷ gone) last = (tt, drops_add P gone last)
 
 pub flush_opens : (core : Core) (state : ModelState) (files : EngineFiles) (parts other : ImageParts) (flag : Bool) (at : ℕ → ℕ) (number : ℕ) (job : Job) (output : FileEntries) (gone : List ℕ) → IsInstallingFlush core state files parts number job output gone
-    → Represents (installed core job (flushed_view output)) state → HasTableFile other output
+    → Represents (installed_by_id core job (flushed_view output)) state → HasTableFile other output
     → HasMore files parts other (flush_group at core job output gone)
-    → IsImageOf (installed core job (flushed_view output)) state (flush_files core job output gone files) [] other flag
+    → IsImageOf (installed_by_id core job (flushed_view output)) state (flush_files core job output gone files) [] other flag
 flush_opens core state files parts other flag at number job output gone is stands found has =
-    step_written core (installed core job (flushed_view output)) state files (flush_files core job output gone files) parts other flag (flush_group at core job output gone) stands is.tied refl
+    step_written core (installed_by_id core job (flushed_view output)) state files (flush_files core job output gone files) parts other flag (flush_group at core job output gone) stands is.tied refl
     (flush_is_group core state files parts at number job output gone is) has refl
     (ap (without_logs (is_among_files gone)) is.tied.log ∙ filter_join (λ file. not (is_among_files gone file)) files.older_logs (files.log ∷ []) ∙ ap (λ b. without_logs (is_among_files gone) files.older_logs ++ cond (not b) (files.log ∷ []) []) is.stays)
     (apart_after files (flush_named core job output gone files.named) (without_logs (is_among_files gone) files.older_logs) at (flush_edits job.family (flush_placement output.file output.length) (greatest_of (flushed_memory job)) gone core.last)
