@@ -1,33 +1,10 @@
-ghost use Rattle.std.specs.Prelude.{◌≡◌, ◌≤◌, ◌<◌, ◌∷◌, ◌++◌, [], List, ℕ, IfOk, OnOk, length};
+ghost use Rattle.std.specs.Prelude.{◌≡◌, ◌≤◌, ◌<◌, ◌∷◌, ◌++◌, [], List, ℕ, OnOk, length};
 ghost use Rattle.st_base.specs.Rows.{Fits, entry_of};
 
-use st_base::{EntryRef, KEY_BYTES, Key, MakeFault, MarkRef, SCAN_BYTES, VALUE_BYTES, Value};
+use crate::copies::{key_of, value_of};
+use st_base::{EntryRef, KEY_BYTES, Key, MarkRef, SCAN_BYTES, VALUE_BYTES, Value};
 use st_order::at_most;
 use std::alloc::{AllocError, Global};
-
-// The key of these bytes, of which there are few enough.
-fn key_of(alloc: Global, bytes: &[u8]) -> Result<Key, AllocError>
-    requires { length bytes.now ≤ KEY_BYTES }
-    ensures { IfOk result (λ key. key ≡ bytes.now) }
-{
-    match Key::new(alloc, bytes) {
-        Ok(key) => Ok(key),
-        Err(MakeFault::OutOfMemory) => Err(AllocError),
-        Err(MakeFault::Limit) => unreachable!(),
-    }
-}
-
-// The value of these bytes, of which there are few enough.
-fn value_of(alloc: Global, bytes: &[u8]) -> Result<Value, AllocError>
-    requires { length bytes.now ≤ VALUE_BYTES }
-    ensures { IfOk result (λ value. value ≡ bytes.now) }
-{
-    match Value::new(alloc, bytes) {
-        Ok(value) => Ok(value),
-        Err(MakeFault::OutOfMemory) => Err(AllocError),
-        Err(MakeFault::Limit) => unreachable!(),
-    }
-}
 
 /// A scan under way: the pairs so far with the bytes of their keys and values, how many more may come, and the key that was
 /// read last.

@@ -1,0 +1,4 @@
+pub mod Pass
+pub mod Search
+pub mod Cut
+pub mod Kept

@@ -1,0 +1,6 @@
+mod ByKey
+mod Lesser
+mod LeastByKey
+mod LeastOfRun
+mod Seen
+mod Stops
