@@ -3,18 +3,30 @@
 # tests and the program, and of the must-fail edits, and of one `rt selftest` before and after them, whose mean is the
 # yardstick, since machines differ. It works in a fresh clone of what is committed, on as many crates at once as there are
 # processors, each with one job, from the bottom up; and writes the table of docs/PROVING.md between its two marks. It takes
-# as long as the gate. With words it measures these crates alone, prints their rows and writes nothing.
+# as long as the gate. With words it measures these crates alone, prints their rows and writes nothing. Last it prints the
+# functions whose check took more than 15 seconds by the clock, with the crate and the step.
 cd "$(dirname "$0")/.." || exit 1
 repository="$PWD"
 folder="$(mktemp -d)" || exit 1
 trap 'rm -rf "$folder"' EXIT
-git clone -q . "$folder/clone" && cd "$folder/clone" && mkdir "$folder/rows" "$folder/done" "$folder/taken" || exit 1
+git clone -q . "$folder/clone" && cd "$folder/clone" && mkdir "$folder/rows" "$folder/done" "$folder/taken" "$folder/logs" || exit 1
 
-# seconds NAME COMMAND: its processor seconds; what it prints goes to the crate's log
+# stamp: each line that comes in, with the seconds of the clock in front
+stamp() { while IFS= read -r line; do printf '%(%s)T %s\n' -1 "$line"; done; }
+# seconds NAME COMMAND: its processor seconds; what it prints goes to a log of the crate and the command
 seconds() {
   local TIMEFORMAT='%U %S' name="$1"
   shift
-  { time "$@" >"$folder/$name.log" 2>&1 </dev/null || echo "failed: $name: $*" >>"$folder/failed"; } 2>&1 | awk '{ printf "%.1f", $1 + $2 }'
+  { time "$@" > >(stamp >"$folder/logs/$name.$2") 2>&1 </dev/null || echo "failed: $name: $*" >>"$folder/failed"; } 2>&1 | awk '{ printf "%.1f", $1 + $2 }'
+}
+# dear: the functions that a check gives more than 15 seconds after the one before
+dear() {
+  local log
+  for log in "$folder"/logs/*.check "$folder"/logs/*.test; do
+    [ -e "$log" ] || continue
+    awk -v crate="$(basename "$log")" '
+      / checked .*, [0-9]+ of [0-9]+$/ { if (before && $1 - before > 15) printf "%s: %s took %d s\n", crate, $3, $1 - before; before = $1 }' "$log"
+  done
 }
 # lines FILES: how many lines they have together
 lines() { find "$@" -type f \( -name '*.rt' -o -name '*.antt' \) -exec cat {} + 2>/dev/null | wc -l; }
@@ -77,6 +89,7 @@ for name in "${crates[@]}"; do cat "$folder/rows/$name"; done | awk -v before="$
     printf "One `rt selftest` took %.1f s before and %.1f s after these; together they are %.1f selftests, of which the proofs are %.1f, tests and programs %.1f, and edits %.1f.\n", before, after, (sum[6] + sum[7] + sum[8]) / unit, sum[6] / unit, sum[7] / unit, sum[8] / unit
   }' >"$folder/table"
 cat "$folder/table"
+dear
 if [ -s "$folder/failed" ]; then
   cat "$folder/failed"
   exit 1
