@@ -71,3 +71,5 @@ mod RefusedNumber
 mod OfState
 pub mod Bounds
 pub mod StateContents
+pub mod Drafts
+mod ByKey

@@ -1,17 +1,21 @@
 -- What the laws say beside the claims.
 use Rattle.st_model.specs.State.{new_store}
 use Rattle.core_model.specs.Run.{new_core, EventDoes}
-use Rattle.std.specs.Prelude.{ℕ, Bool, Some, List, [], ◌∷◌, ◌≡◌, ◌<◌, ◌^◌, map, IsFalse, IsTrue}
+use Rattle.std.specs.Prelude.{ℕ, Bool, Some, List, [], ◌∷◌, ◌≡◌, ◌<◌, ◌^◌, drop, fold, map, IsFalse, IsTrue}
 use Rattle.std.specs.List.{AllByRecursion as Each}
 use Rattle.st_base.specs.Rows.{AreRows}
 use Rattle.st_base.specs.declared.entry.Entry.{Entry}
 use Rattle.core_model.specs.Relation.{Represents}
-use Rattle.core_model.specs.Event.{Event, CompactInstalled, FlushInstalled}
+use Rattle.core_model.specs.Event.{Event, CompactInstalled, FlushInstalled, argument_of_part}
 use Rattle.core_model.specs.declared.reply.CoreReply.{CoreReply}
-use Rattle.core_model.specs.Picture.{Core, FileEntries, is_flush, Job, runs_of, tables_in, FamilyView}
+use Rattle.core_model.specs.Picture.{Core, FileEntries, Part, is_flush, Job, runs_of, tables_in, FamilyView}
 use Rattle.st_model.specs.declared.state.ModelState.{ModelState}
-use Rattle.core_model.specs.Step.{AreFresh, IsNow, noted_job}
+use Rattle.core_model.specs.Step.{AreFresh, IsNow, first_of, noted_job}
+use Rattle.core_model.specs.Commit.{commit_refusals, outline, placed_files, plan, put_planned}
+use Rattle.core_model.specs.Draft.{drafted, first_of_draft, first_unfit, sure_of}
+use Rattle.st_model.specs.Refusals.{sure_cause}
 use Rattle.core_model.specs.RelationParts.{LevelsApart, IsView, IsSortedRun}
+use Rattle.job_model.specs.ByKey.{IsByKey}
 use Rattle.job_model.specs.Pick.{pick_of}
 use Rattle.core_model.specs.Pick.{PickedTables, busy, pick, picked, ranged}
 use Rattle.std.specs.Option.{option_map}
@@ -78,3 +82,24 @@ abbrev pub PickingSeesRanges : Type 0
 PickingSeesRanges = (running : List Job) (lowest_level : ℕ) (family : FamilyView)
     → pick_of (λ table. table) (map busy running) lowest_level (map (λ tables. map ranged tables) family.levels)
     ≡ option_map (λ chosen. (chosen.level, map ranged chosen.inputs)) (pick running lowest_level family)
+
+-- a request drafted file by file is its plan: the core with the files, and where each went
+abbrev pub RequestIsDrafted : Type 0
+RequestIsDrafted = (core : Core) (parts : List Part)
+    → ((drafted core parts).core ≡ fold put_planned core (plan core parts))
+    × ((drafted core parts).files ≡ placed_files (plan core parts))
+
+-- and its first refusal is the first of six tests, of which no other looks at a plan
+abbrev pub DraftIsRefused : Type 0
+DraftIsRefused = (core : Core) (parts : List Part) → core.charge < 2 ^ 64
+    → first_of (commit_refusals core parts) ≡ first_of_draft (first_unfit core 1 parts) core (drafted core parts)
+
+-- why the files of an argument are numbered doesn't depend on its place
+abbrev pub SureIsOfPart : Type 0
+SureIsOfPart = (core : Core) (a : ℕ) (part : Part)
+    → sure_cause (outline core) (argument_of_part a part) ≡ sure_of core part
+
+-- the tables of each level from 1 on, as runs, stand by key: what a search by halves over them asks
+abbrev pub LevelsStandByKey : Type 0
+LevelsStandByKey = (family : FamilyView) → IsView family → LevelsApart family
+    → Each IsByKey (map (λ tables. runs_of tables) (drop 1 family.levels))

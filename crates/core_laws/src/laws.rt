@@ -1,6 +1,6 @@
 //! Each law is the contract of a function without a body: it is proved where that contract is.
 ghost use Rattle.core_model.specs.Run.{StepRefines, EveryRunRefines};
-ghost use Rattle.core_laws.specs.Laws.{NewCoreRepresents, EventDoesSomething, CompactionCanBeInstalled, FlushCanBeInstalled, FlushOutputCanBeInstalled, OutputsCanBeInstalled, PickedIsWellPicked, PickingSeesRanges, RowsAreSorted, SortedAreRows};
+ghost use Rattle.core_laws.specs.Laws.{CompactionCanBeInstalled, DraftIsRefused, EventDoesSomething, FlushCanBeInstalled, FlushOutputCanBeInstalled, LevelsStandByKey, NewCoreRepresents, OutputsCanBeInstalled, PickedIsWellPicked, PickingSeesRanges, RequestIsDrafted, RowsAreSorted, SortedAreRows, SureIsOfPart};
 ghost use Rattle.core_laws.specs.Claims.{PickedRuns, CompactionExists, CompactionIsOne};
 ghost use Rattle.core_laws.specs.Underway.{FileKeepsUnderway, CommitStands};
 ghost use Rattle.core_model.specs.Bounded.{CrashEndsBounded, NewCoreIsBounded, StepKeepsBounds, StepKeepsCapacity};
@@ -99,4 +99,17 @@ pub fn step_keeps_bounds()
     ensures base { NewCoreIsBounded }
     ensures crash { CrashEndsBounded }
     ensures capacity { StepKeepsCapacity }
+{}
+
+/// A request drafted file by file, the core only read, is its plan; its first refusal is that of six tests in a row,
+/// and the cause that is sure of an argument doesn't depend on its place.
+pub fn request_is_drafted()
+    ensures plan { RequestIsDrafted }
+    ensures refused { DraftIsRefused }
+    ensures sure { SureIsOfPart }
+{}
+
+/// The tables of each level from 1 on, as runs, stand by key, as a search by halves over them asks.
+pub fn levels_stand_by_key()
+    ensures { LevelsStandByKey }
 {}

@@ -12,6 +12,7 @@ mod laws;
 pub use laws::{
     commit_stands, compaction_can_be_installed, compaction_exists, compaction_is_one,
     event_does_something, every_run_refines, file_keeps_underway, flush_can_be_installed,
-    new_core_represents, picked_is_well_picked, picked_runs, picking_sees_ranges, represents_state,
-    rows_are_sorted_runs, step_keeps_bounds, step_refines,
+    levels_stand_by_key, new_core_represents, picked_is_well_picked, picked_runs,
+    picking_sees_ranges, represents_state, request_is_drafted, rows_are_sorted_runs,
+    step_keeps_bounds, step_refines,
 };
