@@ -16,7 +16,7 @@ use Rattle.core_laws.proofs.Lists.{pairs_filter, pairs_join}
 use Rattle.core_laws.proofs.Members.{In, each_in, filter_swap, each_by_in, Differ, hits, hits_join, once_hits, hits_once}
 use Rattle.core_laws.proofs.Keys.{and_swaps}
 use Rattle.st_order.specs.Columns.{Pairwise}
-use Rattle.core_laws.proofs.ById.{installed_by_id, changed_id}
+use Rattle.core_laws.proofs.ById.{installed_by_id}
 
 pub lowest_le : (core : Core) → lowest_level core ≤ 6
 lowest_le core = go core.behind

@@ -25,7 +25,7 @@ use Rattle.core_model.specs.Bounded.{CrashEndsBounded, HasSmallMemories, IsBound
 use Rattle.core_model.specs.Commit.{Planned, outline, plan, plan_from, put_file, put_planned, request_files, is_numbered, committed, commit_refusals}
 use Rattle.core_model.specs.Compaction.{with_compacted, with_flushed}
 use Rattle.core_model.specs.Crash.{IsFlushedByCrash, Reopens, rank}
-use Rattle.core_model.specs.Event.{CompactInstalled, CompactPicked, Crashed, DropFamily, Event, FlushInstalled, FlushPicked, IngestCommitted, JobGivenUp, MakeFamily, Release, Seal, Snap, TurnReturned, TurnTaken, Write}
+use Rattle.core_model.specs.Event.{CompactInstalled, CompactPicked, Crashed, DropFamily, FlushInstalled, FlushPicked, IngestCommitted, JobGivenUp, MakeFamily, Release, Seal, Snap, TurnReturned, TurnTaken, Write}
 use Rattle.core_model.specs.declared.reply.CoreReply.{CoreReply}
 use Rattle.core_model.specs.Picture.{Core, FamilyView, FileEntries, Job, Part, Turn, charge_of, memories, new_view}
 use Rattle.core_model.specs.Relation.{Represents}

@@ -1,5 +1,5 @@
 -- The tables of levels from 1 on stand by key.
-use Rattle.std.proofs.Common.{◌≡◌, ◌<◌, ◌≤◌, true, List, [], ◌∷◌, ◌++◌, length, map, arith}
+use Rattle.std.proofs.Common.{◌≡◌, ◌<◌, true, List, [], ◌∷◌, length, map, arith}
 use Rattle.std.specs.Prelude.{drop, IsTrue}
 use Rattle.std.specs.List.{AllByRecursion as Each}
 use Rattle.st_base.specs.Bytes.{below}
@@ -8,8 +8,8 @@ use Rattle.st_base.specs.Range.{range_of}
 use Rattle.st_base.specs.declared.entry.Entry.{Entry}
 use Rattle.base_laws.proofs.Lists.{each_as, each_back, each_front, each_map}
 use Rattle.job_model.specs.ByKey.{IsByKey}
-use Rattle.core_model.specs.Picture.{FamilyView, FileEntries, runs_of, tables_in}
-use Rattle.core_model.specs.RelationParts.{HasEntry, IsLevel, IsView, LevelsApart}
+use Rattle.core_model.specs.Picture.{FileEntries, runs_of, tables_in}
+use Rattle.core_model.specs.RelationParts.{HasEntry, IsLevel}
 use Rattle.core_laws.proofs.Members.{pairs_map}
 use Rattle.core_laws.proofs.Middle.{tables_ordered}
 use Rattle.core_laws.specs.Laws.{LevelsStandByKey}

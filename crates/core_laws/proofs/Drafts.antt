@@ -1,6 +1,6 @@
 -- A request drafted file by file is the core's plan, and its first refusal is that of six tests in a row.
 use Rattle.std.proofs.Common.{◌≡◌, ℕ, ◌+◌, ◌<◌, Bool, true, false, cond, ◌||◌, not, List, [], ◌∷◌, ◌++◌, map, filter, length, Option, Some, None, append_assoc, refl, sym, ap, ap₂, ◌∙◌, arith}
-use Rattle.std.specs.Prelude.{◌^◌, ◌-◌, filter_map, find, fold, min, nat_le, nat_lt}
+use Rattle.std.specs.Prelude.{◌^◌, filter_map, find, fold, nat_le, nat_lt}
 use Rattle.std.specs.Option.{option_and_then, option_map, option_or}
 use Rattle.std.specs.List.{cons_option}
 use Rattle.st_base.specs.Entries.{add_charge}
@@ -17,8 +17,8 @@ use Rattle.st_model.specs.declared.refusal.Refusal.{Refusal}
 use Rattle.st_model.specs.declared.refusal.Refusal.TheVariants.{BehindDoesNotFit, NumbersSpent, StoreFull}
 use Rattle.st_model.specs.declared.refusal.Why.{Why}
 use Rattle.st_model.specs.declared.refusal.Why.TheVariants.{Files, Snapshot}
-use Rattle.core_model.specs.Commit.{Planned, RequestFile, behind_fit_refusal, comes_behind, commit_refusals, is_numbered, level_refusal, number_refusal, outline, placed_files, placed_in_plan, plan, plan_charge, plan_file, plan_from, put_planned, request_files, request_files_after, request_files_of}
-use Rattle.core_model.specs.Draft.{Draft, drafted, first_met, first_of_draft, first_unfit, met_below, new_draft, refused_where, with_request_file, with_request_files}
+use Rattle.core_model.specs.Commit.{Planned, RequestFile, behind_fit_refusal, comes_behind, is_numbered, level_refusal, number_refusal, outline, placed_files, placed_in_plan, plan, plan_charge, plan_file, plan_from, put_planned, request_files, request_files_after, request_files_of}
+use Rattle.core_model.specs.Draft.{Draft, drafted, first_met, first_unfit, met_below, new_draft, refused_where, with_request_file, with_request_files}
 use Rattle.core_model.specs.Event.{argument_of_part}
 use Rattle.core_model.specs.Picture.{Core, FamilyView, FileEntries, Part, level_at, lowest_level, table_range}
 use Rattle.core_model.specs.Step.{first_of}

@@ -1,7 +1,7 @@
 -- Tables that are part of others, told by their file numbers.
 use Rattle.std.proofs.Common.{◌≡◌, ℕ, zero, suc, ◌<◌, ◌≤◌, ◌⊎◌, Bool, true, false, cond, List, [], ◌∷◌, ◌++◌, length, take, drop, refl, sym, ap, ◌∙◌, inl, inr, arith, append_assoc}
 use Rattle.std.specs.Prelude.{map, filter, flat_map, slice_get, unwrap_or, ◌==◌, ◌||◌}
-use Rattle.std.specs.List.{list_any, AllByRecursion as Each}
+use Rattle.std.specs.List.{AllByRecursion as Each}
 use Rattle.std.proofs.lemmas.Bool.{or_left, or_right, ne_eqb, eq-eqb}
 use Rattle.base_laws.proofs.Lists.{any_none, each_as, each_back, each_front, each_map}
 use Rattle.core_model.specs.Picture.{FileEntries, has_file}

@@ -1,5 +1,5 @@
 -- One step of the core: for each event, when it holds and what it does. An event that doesn't hold is answered NotNow.
-use Rattle.std.specs.Prelude.{ℕ, Bool, false, ◌||◌, not, ◌==◌, ◌≡◌, ◌≤◌, ◌<◌, ◌+◌, nat_le, IsTrue, IsFalse, length, List, [], ◌∷◌, ◌++◌, map, filter, find, flat_map, sum_by, if◌then◌else◌, Option, Some, None, IsSomeAnd, is_some, unwrap_or}
+use Rattle.std.specs.Prelude.{ℕ, Bool, false, ◌||◌, not, ◌==◌, ◌≡◌, ◌≤◌, ◌<◌, ◌+◌, nat_le, IsTrue, IsFalse, length, List, [], ◌∷◌, ◌++◌, filter, find, flat_map, sum_by, if◌then◌else◌, Option, Some, None, IsSomeAnd, is_some, unwrap_or}
 use Rattle.std.specs.Option.{option_map, option_and_then}
 use Rattle.std.specs.List.{list_any, AllByRecursion as Each}
 use Rattle.st_base.specs.Entries.{mark_length, add_charge}

@@ -1,10 +1,10 @@
 -- The edits of a commit's files: they are right, and they place what the plan places.
 use Rattle.std.proofs.Common.{◌≡◌, ℕ, ◌+◌, ◌≤◌, Bool, true, false, cond, ◌&&◌, ◌||◌, not, List, [], ◌∷◌, map, length, Option, Some, None, is_some, unwrap_or, option_map, refl, sym, ap, subst, ◌∙◌, is_eq, arith}
-use Rattle.std.specs.Prelude.{IsTrue, nat_le, nat_lt, ◌==◌, max}
+use Rattle.std.specs.Prelude.{IsTrue, nat_le, ◌==◌, max}
 use Rattle.std.specs.declared.cmp.Ordering.{Ordering}
 use Rattle.std.specs.declared.cmp.Ordering.TheVariants.{Less, Equal, Greater}
 use Rattle.std.specs.List.{AllByRecursion as Each, AllZip}
-use Rattle.std.proofs.lemmas.Bool.{false≢true, eqb-true, ltb-true, le-leb}
+use Rattle.std.proofs.lemmas.Bool.{false≢true, eqb-true, le-leb}
 use Rattle.st_base.specs.Bytes.{below, same, bytes_cmp}
 use Rattle.st_base.specs.Map.{value_at}
 use Rattle.st_base.specs.Order.{rises, rises_behind}

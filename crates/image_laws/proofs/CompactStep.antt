@@ -1,6 +1,6 @@
 -- An installed compaction: its group is right and is cut into records that count down, and each image opens to the contents
 -- of the state.
-use Rattle.std.proofs.Common.{◌≡◌, ℕ, ◌≤◌, Bool, true, false, cond, ◌&&◌, ◌||◌, List, [], ◌∷◌, ◌++◌, length, Some, refl, sym, ap, subst, ◌∙◌, arith}
+use Rattle.std.proofs.Common.{◌≡◌, ℕ, ◌≤◌, Bool, true, false, cond, ◌&&◌, ◌||◌, List, [], ◌∷◌, ◌++◌, length, refl, sym, ap, subst, ◌∙◌, arith}
 use Rattle.std.specs.Prelude.{IsTrue, nat_le, ◌==◌}
 use Rattle.std.specs.List.{list_any, AllByRecursion as Each, AllZip}
 use Rattle.std.proofs.lemmas.Bool.{false≢true, eqb-true, eqb-false, le-leb}

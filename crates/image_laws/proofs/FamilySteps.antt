@@ -2,7 +2,7 @@
 use Rattle.std.proofs.Common.{◌≡◌, ℕ, ◌<◌, Bool, true, false, cond, ◌&&◌, ◌||◌, not, List, [], ◌∷◌, ◌++◌, Option, Some, None, refl, sym, ap, subst, ◌∙◌, is_eq, arith}
 use Rattle.std.specs.Prelude.{◌≢◌, IsFalse, nat_lt, ◌==◌, is_some}
 use Rattle.std.specs.List.{list_any, AllByRecursion as Each, AllZip}
-use Rattle.std.proofs.lemmas.Bool.{false≢true, le-ltb, ltb-true}
+use Rattle.std.proofs.lemmas.Bool.{le-ltb, ltb-true}
 use Rattle.st_base.specs.Bytes.{same, bytes_cmp}
 use Rattle.st_base.specs.Map.{value_at, changed_at}
 use Rattle.st_model.specs.declared.state.ModelState.{ModelState}

@@ -5,7 +5,7 @@ use Rattle.st_base.specs.Bytes.{below}
 use Rattle.st_base.specs.Range.{meet}
 use Rattle.st_base.specs.declared.entry.KeyRange.{KeyRange}
 use Rattle.base_laws.proofs.Keys.{at_most_itself, below_at_most, below_at_most_below}
-use Rattle.job_model.specs.Drops.{covers, drop_runs, rising_keys, AreApart}
+use Rattle.job_model.specs.Drops.{covers, rising_keys, AreApart}
 use Rattle.job_laws.proofs.Rightward.{from_the_left, join_run, runs_joined}
 use Rattle.job_laws.proofs.Rising.{Rise, rising_rise}
 use Rattle.job_laws.specs.Laws.{DropRunsApart}
