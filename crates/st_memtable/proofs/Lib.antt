@@ -1,4 +1,4 @@
-mod Joins
+pub mod Joins
 mod Shared
 mod Positions
 mod Halves
