@@ -1,0 +1,108 @@
+// A group of edits, laid into the payloads of records.
+ghost use Rattle.std.specs.Prelude.{◌≡◌, ◌≤◌, IfOk, IsTrue, OnOk, length, map};
+ghost use Rattle.manifest_edits.specs.Edits.{ends_with_last};
+ghost use Rattle.manifest_edits.specs.Groups.{record_room};
+ghost use Rattle.st_manifest.specs.Edit.{as_edit};
+ghost use Rattle.st_manifest.specs.Laid.{IsGroupPayloads, bodies_laid, body_laid, edits_in, group_bodies, numbered_bodies};
+ghost use Rattle.st_manifest.specs.Payload.{fit_edits};
+
+use crate::edit::Edit;
+use crate::payload::{PAYLOAD_BYTES, edit_size, push_edit};
+use st_base::{Bytes, List};
+use st_code::push_fixed32;
+use std::alloc::{AllocError, Global};
+use std::marker::Model;
+
+/// A group of edits, as it is appended. Contracts see the payloads of its records.
+#[derive(Drop)]
+pub struct Group {
+    payloads: List<Bytes>,
+}
+
+impl Model for Group {
+    ghost use Rattle.std.specs.Prelude.{List, ℕ};
+    ghost use Rattle.st_manifest.specs.Laid.{IsGroupPayloads};
+
+    ghost Value = { List (List ℕ) };
+
+    ghost view = { λ group. group.payloads };
+
+    ghost invariant = { λ group. IsGroupPayloads group.payloads };
+}
+
+// Adds an edit to the body that is being filled, which is closed before it where it hasn't room.
+fn lay_edit(
+    alloc: Global,
+    bodies: &mut List<Bytes>,
+    body: Bytes,
+    edit: &Edit,
+) -> Result<Bytes, AllocError>
+    requires { length body ≤ record_room }
+    ensures bodies { OnOk result (bodies.new ≡ bodies_laid bodies.old body (as_edit edit.now)) }
+    ensures body { IfOk result (λ filled. filled ≡ body_laid body (as_edit edit.now)) }
+{
+    let mut filled = body;
+    if filled.len() + edit_size(edit) > PAYLOAD_BYTES - 4 {
+        bodies.push(filled)?;
+        filled = Bytes::new(alloc);
+    }
+    push_edit(&mut filled, edit)?;
+    Ok(filled)
+}
+
+// The bytes of the edits in the order of their records, each record as full as whole edits allow.
+fn lay(alloc: Global, edits: &[Edit]) -> Result<List<Bytes>, AllocError>
+    requires some { 1 ≤ length edits.now }
+    requires fits { IsTrue (fit_edits (map as_edit edits.now)) }
+    ensures { IfOk result (λ bodies. bodies ≡ group_bodies (map as_edit edits.now)) }
+{
+    let mut bodies = List::new(alloc);
+    let mut body = Bytes::new(alloc);
+    for edit in edits {
+        body = lay_edit(alloc, &mut bodies, body, edit)?;
+    }
+    bodies.push(body)?;
+    Ok(bodies)
+}
+
+// The payloads of these bodies: each has how many follow it in front. There is no memory for 4,294,967,296.
+fn count_down(alloc: Global, bodies: &[Bytes]) -> Result<List<Bytes>, AllocError>
+    ensures payloads { IfOk result (λ payloads. payloads ≡ numbered_bodies bodies.now) }
+    ensures few { IfOk result (λ payloads. length bodies.now ≤ 4294967295) }
+{
+    if bodies.len() > u32::MAX as usize {
+        return Err(AllocError);
+    }
+    let mut payloads = List::new(alloc);
+    let mut left = bodies.len() as u32;
+    for body in bodies {
+        left -= 1;
+        let mut payload = Bytes::new(alloc);
+        push_fixed32(&mut payload, left)?;
+        payload.extend_from_slice(body.as_slice())?;
+        payloads.push(payload)?;
+    }
+    Ok(payloads)
+}
+
+impl Group {
+    /// The group of these edits. The last is `Last`, and no other is; levels are at most 6, sequence numbers at most
+    /// 72,057,594,037,927,935, file numbers below 18,446,744,073,709,551,615, and families' ids below 4,294,967,295.
+    pub fn new(alloc: Global, edits: &[Edit]) -> Result<Group, AllocError>
+        requires last { IsTrue (ends_with_last (map as_edit edits.now)) }
+        requires fits { IsTrue (fit_edits (map as_edit edits.now)) }
+        ensures { IfOk result (λ group. edits_in group ≡ map as_edit edits.now) }
+    {
+        let bodies = lay(alloc, edits)?;
+        let payloads = count_down(alloc, bodies.as_slice())?;
+        Ok(Group { payloads })
+    }
+
+    /// The payloads of the group's records, in order.
+    pub fn payloads(&self) -> &[Bytes]
+        ensures value { result.now ≡ self.now }
+        ensures group { IsGroupPayloads self.now }
+    {
+        self.payloads.as_slice()
+    }
+}

@@ -1,0 +1,18 @@
+//! The manifest, which says what the store consists of, and the root file, which names the manifest.
+//!
+//! A group of edits is laid into records of a gated log, each as full as whole edits allow, and each says how many of
+//! its group still follow: a group counts with the record that none follows. So each image of a crash within
+//! `Manifest::append_group` has the group's edits or none of them. A layer above speaks of edits and never of bytes.
+#![tactic(auto)]
+
+mod append;
+mod edit;
+mod group;
+mod manifest;
+mod payload;
+mod root;
+
+pub use edit::Edit;
+pub use group::Group;
+pub use manifest::Manifest;
+pub use root::{MARK_FILE, ROOT_FILE, RootRecord, root_append, root_make, root_replay};
