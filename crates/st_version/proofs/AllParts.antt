@@ -7,7 +7,7 @@ use Rattle.st_memtable.proofs.Joins.{sorted_back, sorted_front}
 use Rattle.st_memtable.specs.Memtable.{MemView}
 use Rattle.core_model.specs.Picture.{FamilyView, FileEntries, runs_of, tables_in, walk}
 use Rattle.st_order.specs.Sorted.{joined, merged, sorted}
-use Rattle.st_version.specs.Held.{SharedMem, entries_in, runs_in}
+use Rattle.st_version.specs.Held.{SharedMem, entries_in, runs_of_memtables}
 
 joined_append : (xs ys : List (List Entry)) → joined (xs ++ ys) ≡ joined xs ++ joined ys
 joined_append [] ys = refl
@@ -25,18 +25,18 @@ pub merged_one : (runs others more : List (List Entry)) (entries : List Entry) �
 unfolding merged
 merged_one = one_merged
 
-pub merged_memtables : (memtables : List SharedMem) (others : List (List Entry)) → Each (λ mem. merged mem.value.runs ≡ mem.value.entries) memtables → merged (runs_in memtables ++ others) ≡ merged (entries_in memtables ++ others)
+pub merged_memtables : (memtables : List SharedMem) (others : List (List Entry)) → Each (λ mem. merged mem.value.runs ≡ mem.value.entries) memtables → merged (runs_of_memtables memtables ++ others) ≡ merged (entries_in memtables ++ others)
 merged_memtables [] others whole = refl
 merged_memtables (mem ∷ memtables) others whole =
-    ap merged (append_assoc mem.value.runs (runs_in memtables) others)
-    ∙ merged_one mem.value.runs (runs_in memtables ++ others) (entries_in memtables ++ others) mem.value.entries whole.0 (merged_memtables memtables others whole.1)
+    ap merged (append_assoc mem.value.runs (runs_of_memtables memtables) others)
+    ∙ merged_one mem.value.runs (runs_of_memtables memtables ++ others) (entries_in memtables ++ others) mem.value.entries whole.0 (merged_memtables memtables others whole.1)
 
 -- all parts: the memtable's, those of the sealed ones, and the tables
 pub all_parts : (family : FamilyView) (id : ℕ) (mem : MemView) (sealed : List SharedMem) (levels : List (List FileEntries)) (one two three : List (List Entry))
     → record { id = id; mem = mem.entries; sealed = entries_in sealed; levels = levels } ≡ family
-    → one ≡ mem.runs → merged mem.runs ≡ mem.entries → two ≡ one ++ runs_in sealed → Each (λ (shared : SharedMem). merged shared.value.runs ≡ shared.value.entries) sealed → three ≡ two ++ runs_of (tables_in levels)
+    → one ≡ mem.runs → merged mem.runs ≡ mem.entries → two ≡ one ++ runs_of_memtables sealed → Each (λ (shared : SharedMem). merged shared.value.runs ≡ shared.value.entries) sealed → three ≡ two ++ runs_of (tables_in levels)
     → merged three ≡ merged (walk family)
 all_parts family id mem sealed levels one two three is first whole second each third =
-    ap merged (third ∙ ap (λ some. some ++ runs_of (tables_in levels)) (second ∙ ap (λ some. some ++ runs_in sealed) first) ∙ append_assoc mem.runs (runs_in sealed) (runs_of (tables_in levels)))
-    ∙ merged_one mem.runs (runs_in sealed ++ runs_of (tables_in levels)) (entries_in sealed ++ runs_of (tables_in levels)) mem.entries whole (merged_memtables sealed (runs_of (tables_in levels)) each)
+    ap merged (third ∙ ap (λ some. some ++ runs_of (tables_in levels)) (second ∙ ap (λ some. some ++ runs_of_memtables sealed) first) ∙ append_assoc mem.runs (runs_of_memtables sealed) (runs_of (tables_in levels)))
+    ∙ merged_one mem.runs (runs_of_memtables sealed ++ runs_of (tables_in levels)) (entries_in sealed ++ runs_of (tables_in levels)) mem.entries whole (merged_memtables sealed (runs_of (tables_in levels)) each)
     ∙ ap (λ (one : FamilyView). merged (walk one)) is

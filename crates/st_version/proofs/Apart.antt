@@ -4,7 +4,7 @@ use Rattle.std.specs.List.{list_any, AllByRecursion as Each}
 use Rattle.std.proofs.lemmas.Bool.{false≢true, or_parts}
 use Rattle.std.proofs.lemmas.List.{length-map}
 use Rattle.st_base.specs.Range.{meet}
-use Rattle.core_model.specs.Column.{Pairwise}
+use Rattle.st_order.specs.Columns.{Pairwise}
 use Rattle.core_model.specs.Picture.{FileEntries, table_range}
 use Rattle.core_model.specs.RelationParts.{HasEntry}
 use Rattle.st_order.proofs.Halves.{each_at}

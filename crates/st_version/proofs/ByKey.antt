@@ -12,8 +12,9 @@ use Rattle.st_order.proofs.Halves.{each_at}
 use Rattle.base_laws.proofs.Keys.{at_most_below, at_most_itself, at_most_trans, below_at_most, below_at_most_below, below_not, below_trans, not_at_most}
 use Rattle.base_laws.proofs.Lists.{each_as, filter_none}
 use Rattle.base_laws.proofs.Ranges.{at_most_end, end_greatest, range_has_keys, range_is_proper, within_parts}
-use Rattle.core_model.specs.Column.{Pairwise, column, of_key}
-use Rattle.st_version.specs.ByKey.{EndsBelow, StandByKey, started, starts_by}
+use Rattle.st_order.specs.Columns.{Pairwise, column, of_key}
+use Rattle.job_model.specs.ByKey.{IsByKey}
+use Rattle.st_version.specs.ByKey.{EndsBelow, started, starts_by}
 
 -- a run whose keys are all different from the key
 none_of : (key : List ℕ) (run : List Entry) → Each (λ entry. same entry.key key ≡ false) run → of_key key run ≡ []
@@ -42,7 +43,7 @@ starts_above key run ordered lt = none_of key run
     (each_as (λ (e : Entry). is_in_range (range_of run) e.key ≡ true) (λ e. at_most (key_at_front run) e.key ≡ true) (λ e within. (within_parts (range_of run) e.key within).0) run (range_has_keys run ordered)))
 
 -- the runs but the first stand by key too
-pub rest_by_key : (run : List Entry) (runs : List (List Entry)) → StandByKey (run ∷ runs) → StandByKey runs
+pub rest_by_key : (run : List Entry) (runs : List (List Entry)) → IsByKey (run ∷ runs) → IsByKey runs
 rest_by_key run runs is = record { ordered = is.ordered.1; filled = is.filled.1; apart = is.apart.1 }
 
 -- a first key is at most the last one
@@ -50,7 +51,7 @@ pub proper : (run : List Entry) → in_order run ≡ true → at_most (key_at_fr
 proper run ordered = range_is_proper run ordered
 
 -- runs behind one that starts above the key start above it
-none_started : (key : List ℕ) (run : List Entry) (runs : List (List Entry)) → StandByKey (run ∷ runs) → below key (key_at_front run) ≡ true → column key (run ∷ runs) ≡ []
+none_started : (key : List ℕ) (run : List Entry) (runs : List (List Entry)) → IsByKey (run ∷ runs) → below key (key_at_front run) ≡ true → column key (run ∷ runs) ≡ []
 none_started key run [] is lt = append-nil (of_key key run) ∙ starts_above key run is.ordered.0 lt
 none_started key run (next ∷ runs) is lt =
     ap (λ front. front ++ column key (next ∷ runs)) (starts_above key run is.ordered.0 lt)
@@ -62,7 +63,7 @@ abbrev pub last_started : List (List Entry) → ℕ → List Entry
 last_started runs zero = []
 last_started runs (suc n) = get_or runs n []
 
-pub in_last_started : (key : List ℕ) (runs : List (List Entry)) → StandByKey runs → column key runs ≡ of_key key (last_started runs (started key runs))
+pub in_last_started : (key : List ℕ) (runs : List (List Entry)) → IsByKey runs → column key runs ≡ of_key key (last_started runs (started key runs))
 in_last_started key [] is = refl
 in_last_started key (run ∷ runs) is = step (starts_by key run) refl (started key runs) refl (in_last_started key runs (rest_by_key run runs is))
   where
@@ -91,7 +92,7 @@ last_is runs (suc n) some = ap (λ i. get_or runs i []) (let e : n ≡ suc n - 1
 -- ---- the search by halves
 
 -- the fronts of runs rise
-pub half_low : (key : List ℕ) (runs : List (List Entry)) (d : List Entry) (i : ℕ) → StandByKey runs → i < length runs → starts_by key (get_or runs i d) ≡ true → i < started key runs
+pub half_low : (key : List ℕ) (runs : List (List Entry)) (d : List Entry) (i : ℕ) → IsByKey runs → i < length runs → starts_by key (get_or runs i d) ≡ true → i < started key runs
 half_low key [] d i is lt by = absurd (omega arith)
 half_low key (run ∷ runs) d zero is lt by = subst (λ b. zero < cond b (1 + started key runs) 0) (sym by) (omega arith)
 half_low key (run ∷ runs) d (suc i) is lt by =
@@ -99,7 +100,7 @@ half_low key (run ∷ runs) d (suc i) is lt by =
     let first : starts_by key run ≡ true = start runs d i is lt by in
     subst (λ b. suc i < cond b (1 + started key runs) 0) (sym first) (omega (arith, rest))
   where
-    start : (runs : List (List Entry)) (d : List Entry) (i : ℕ) → StandByKey (run ∷ runs) → suc i < length (run ∷ runs) → starts_by key (get_or runs i d) ≡ true → starts_by key run ≡ true
+    start : (runs : List (List Entry)) (d : List Entry) (i : ℕ) → IsByKey (run ∷ runs) → suc i < length (run ∷ runs) → starts_by key (get_or runs i d) ≡ true → starts_by key run ≡ true
     start runs d i is lt by =
         below_at_most (key_at_front run) key
         (at_most_below_most (key_at_front run) (key_at_end run) (key_at_front (get_or runs i d)) key (proper run is.ordered.0) (each_at (EndsBelow run) runs i d is.apart.0 (omega arith)) by)

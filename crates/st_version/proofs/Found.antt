@@ -7,7 +7,8 @@ use Rattle.st_base.specs.Rows.{mark_of, newest}
 use Rattle.st_base.specs.declared.entry_ref.MarkRef.{MarkRef}
 use Rattle.st_base.specs.declared.entry.Entry.{Entry}
 use Rattle.st_base.specs.declared.entry.Mark.{Mark}
-use Rattle.core_model.specs.Column.{column, first_at, found_at, of_key}
+use Rattle.st_order.specs.Columns.{column, of_key}
+use Rattle.job_model.specs.Column.{first_at, found_at}
 
 -- an entry that passes two tests, as the first of those that pass one
 pub find_both : {X : Type 0} (test other : X → Bool) (xs : List X) → find (λ x. test x && other x) xs ≡ find other (filter test xs)

@@ -5,7 +5,8 @@ use Rattle.std.specs.Option.{option_or}
 use Rattle.std.proofs.lemmas.List.{map-append}
 use Rattle.st_base.specs.declared.entry.Entry.{Entry}
 use Rattle.st_base.specs.declared.entry.Mark.{Mark}
-use Rattle.core_model.specs.Column.{column, found_at, of_key}
+use Rattle.st_order.specs.Columns.{column, of_key}
+use Rattle.job_model.specs.Column.{found_at}
 use Rattle.core_model.specs.Picture.{FamilyView, FileEntries, find_mark, runs_of, tables_in}
 use Rattle.st_version.specs.Held.{SharedTable, tables_of}
 use Rattle.st_version.proofs.Found.{found_join}

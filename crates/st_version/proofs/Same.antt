@@ -13,8 +13,8 @@ by_key (suc n) outputs tables le = refl
 
 pub compacted_same : (job : Job) (outputs : List FileEntries) (family : FamilyView) → 1 ≤ job.level → replaced job.files job.level outputs family ≡ with_compacted job outputs family
 compacted_same job outputs family le =
-    ap (λ (tables : List FileEntries). record family { levels = set (map (staying job) family.levels) job.level tables })
-    (by_key job.level outputs (staying job (level_at family job.level)) le)
+    ap (λ (tables : List FileEntries). record family { levels = set (map (staying job.files) family.levels) job.level tables })
+    (by_key job.level outputs (staying job.files (level_at family job.level)) le)
 
 none_out : (tables : List FileEntries) → without_files [] tables ≡ tables
 none_out tables = filter_whole (λ table. Rattle.std.specs.Prelude.not (Rattle.st_version.specs.Replace.is_among [] table)) tables (each_all _ (λ table. refl) tables)

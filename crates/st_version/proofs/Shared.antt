@@ -11,8 +11,9 @@ use Rattle.st_base.specs.Bytes.{below}
 use Rattle.st_base.specs.Range.{key_at_front}
 use Rattle.st_base.specs.declared.entry.Entry.{Entry}
 use Rattle.std.specs.List.{AllByRecursion as Each}
-use Rattle.core_model.specs.Column.{column, found_at}
-use Rattle.st_version.specs.ByKey.{StandByKey}
+use Rattle.st_order.specs.Columns.{column}
+use Rattle.job_model.specs.Column.{found_at}
+use Rattle.job_model.specs.ByKey.{IsByKey}
 use Rattle.core_model.specs.Picture.{FileEntries, put_by_key, runs_of}
 use Rattle.st_version.specs.Held.{SharedTable, tables_of}
 use Rattle.st_version.specs.Replace.{is_among, without_files}
@@ -31,9 +32,9 @@ zero_found number key zero tables e =
     ∙ ap (λ runs. found_at number (column key runs)) (runs_shared zero)
 
 -- tables that stand by key, as they are shared
-pub each_stands : (levels : List (List SharedTable)) → Each (λ (tables : List FileEntries). StandByKey (runs_of tables)) (map tables_of levels) → Each (λ (tables : List SharedTable). StandByKey (map entries_of tables)) levels
+pub each_stands : (levels : List (List SharedTable)) → Each (λ (tables : List FileEntries). IsByKey (runs_of tables)) (map tables_of levels) → Each (λ (tables : List SharedTable). IsByKey (map entries_of tables)) levels
 each_stands [] each = tt
-each_stands (tables ∷ levels) each = (subst StandByKey (sym (runs_shared tables)) each.0, each_stands levels each.1)
+each_stands (tables ∷ levels) each = (subst IsByKey (sym (runs_shared tables)) each.0, each_stands levels each.1)
 
 one-add : (n : ℕ) → 1 + n ≡ suc n
 one-add n = omega arith

@@ -6,7 +6,8 @@ use Rattle.std.specs.Option.{option_or}
 use Rattle.std.proofs.lemmas.List.{drop_more, map-append, take_more}
 use Rattle.st_base.specs.declared.entry.Entry.{Entry}
 use Rattle.st_base.specs.declared.entry.Mark.{Mark}
-use Rattle.core_model.specs.Column.{column, found_at, of_key}
+use Rattle.st_order.specs.Columns.{column, of_key}
+use Rattle.job_model.specs.Column.{found_at}
 use Rattle.core_model.specs.Compaction.{put_all}
 use Rattle.core_model.specs.Picture.{FileEntries, put_by_key, runs_of, tables_in}
 use Rattle.st_order.proofs.Halves.{get_there}

@@ -38,5 +38,5 @@ abbrev pub entries_in : List SharedMem → List (List Entry)
 entries_in memtables = map (λ (mem : SharedMem). mem.value.entries) memtables
 
 -- their runs, one memtable behind the other
-abbrev pub runs_in : List SharedMem → List (List Entry)
-runs_in memtables = flat_map (λ (mem : SharedMem). mem.value.runs) memtables
+abbrev pub runs_of_memtables : List SharedMem → List (List Entry)
+runs_of_memtables memtables = flat_map (λ (mem : SharedMem). mem.value.runs) memtables

@@ -1,13 +1,13 @@
 -- Tables of a family replaced by others, and what a family's levels keep.
 use Rattle.std.specs.Prelude.{ℕ, zero, suc, Bool, ◌==◌, ◌≤◌, not, IsFalse, List, ◌++◌, drop, filter, map, set}
 use Rattle.std.specs.List.{list_any, AllByRecursion as Each}
-use Rattle.core_model.specs.Column.{Pairwise}
+use Rattle.st_order.specs.Columns.{Pairwise}
 use Rattle.core_model.specs.Compaction.{put_all}
 use Rattle.core_model.specs.Picture.{FamilyView, FileEntries, level_at, runs_of, table_range}
 use Rattle.core_model.specs.RelationParts.{HasEntry}
 use Rattle.st_base.specs.Range.{meet}
 use Rattle.st_base.specs.Rows.{AreRows}
-use Rattle.st_version.specs.ByKey.{StandByKey}
+use Rattle.job_model.specs.ByKey.{IsByKey}
 
 -- whether the table's file is one of these
 abbrev pub is_among : List ℕ → FileEntries → Bool
@@ -46,4 +46,4 @@ AreTables tables = Each (λ table. AreRows table.entries) tables
 -- tables are rows, and from level 1 on stand by key
 pub record AreLevels (levels : List (List FileEntries)) : Type 0 where
   pub tables : Each AreTables levels
-  pub by_key : Each (λ tables. StandByKey (runs_of tables)) (drop 1 levels)
+  pub by_key : Each (λ tables. IsByKey (runs_of tables)) (drop 1 levels)

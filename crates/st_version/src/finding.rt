@@ -1,5 +1,6 @@
 ghost use Rattle.std.specs.Prelude.{◌≡◌, map, option_map};
-ghost use Rattle.core_model.specs.Column.{column, found_at, of_key};
+ghost use Rattle.st_order.specs.Columns.{column, of_key};
+ghost use Rattle.job_model.specs.Column.{found_at};
 ghost use Rattle.st_base.specs.Rows.{mark_of};
 ghost use Rattle.st_version.specs.Held.{entries_in};
 

@@ -1,6 +1,6 @@
 ghost use Rattle.std.specs.Prelude.{◌≡◌, ◌↔◌, ◌≤◌, ◌++◌, IsTrue, OnOk, length, not};
 ghost use Rattle.std.specs.List.{list_any, AllByRecursion};
-ghost use Rattle.core_model.specs.Column.{Pairwise};
+ghost use Rattle.st_order.specs.Columns.{Pairwise};
 ghost use Rattle.core_model.specs.Picture.{table_range};
 ghost use Rattle.core_model.specs.RelationParts.{HasEntry};
 ghost use Rattle.st_base.specs.Range.{key_at_end, key_at_front, meet};

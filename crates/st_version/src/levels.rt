@@ -1,9 +1,11 @@
 ghost use Rattle.std.specs.Prelude.{◌≡◌, drop, flat_map, map, option_map};
 ghost use Rattle.std.specs.List.{AllByRecursion};
-ghost use Rattle.core_model.specs.Column.{column, found_at};
+ghost use Rattle.st_order.specs.Columns.{column};
+ghost use Rattle.job_model.specs.Column.{found_at};
 ghost use Rattle.st_base.specs.Levels.{levels_of};
 ghost use Rattle.st_base.specs.Rows.{mark_of};
-ghost use Rattle.st_version.specs.ByKey.{StandByKey, started, starts_by};
+ghost use Rattle.job_model.specs.ByKey.{IsByKey};
+ghost use Rattle.st_version.specs.ByKey.{started, starts_by};
 
 use crate::finding::in_table;
 use st_base::{Levels, MarkRef, Rows, Scratch};
@@ -21,7 +23,7 @@ fn starts_by<T: Rows>(table: &T, key: &[u8]) -> bool
 
 // How many tables, which stand by key, start at or below the key: a search by halves.
 fn started<T: Rows>(tables: &[T], key: &[u8]) -> usize
-    requires { StandByKey (map T.rows tables.now) }
+    requires { IsByKey (map T.rows tables.now) }
     ensures { result ≡ started key.now (map T.rows tables.now) }
 {
     let mut low = 0;
@@ -44,7 +46,7 @@ pub(crate) fn by_key<'a, T: Rows>(
     number: u64,
     scratch: &mut Scratch,
 ) -> Option<MarkRef<'a>>
-    requires { StandByKey (map T.rows tables.now) }
+    requires { IsByKey (map T.rows tables.now) }
     ensures { option_map mark_of result ≡ found_at number (column key.now (map T.rows tables.now)) }
 {
     let count = started(tables, key);
@@ -61,7 +63,7 @@ pub(crate) fn in_levels<'a, T: Rows>(
     number: u64,
     scratch: &mut Scratch,
 ) -> Option<MarkRef<'a>>
-    requires { AllByRecursion (λ tables. StandByKey (map T.rows tables)) (drop 1 (levels_of levels.now)) }
+    requires { AllByRecursion (λ tables. IsByKey (map T.rows tables)) (drop 1 (levels_of levels.now)) }
     ensures { option_map mark_of result
         ≡ found_at number (column key.now (map T.rows (flat_map (λ tables. tables) (drop 1 (levels_of levels.now))))) }
 {

@@ -1,7 +1,7 @@
 ghost use Rattle.std.specs.Prelude.{◌≡◌, ◌++◌, IfOk, OnOk, map};
 ghost use Rattle.std.specs.List.{AllByRecursion};
 ghost use Rattle.st_order.specs.Sorted.{merged};
-ghost use Rattle.st_version.specs.Held.{runs_in, tables_of};
+ghost use Rattle.st_version.specs.Held.{runs_of_memtables, tables_of};
 ghost use Rattle.st_version.specs.Run.{entries_of_run};
 ghost use Rattle.core_model.specs.Picture.{runs_of, tables_in};
 ghost use Rattle.st_base.specs.Levels.{levels_of};
@@ -44,7 +44,7 @@ pub(crate) fn push_memtables<T: Rows + Drop>(
     memtables: &[Arc<Mem>],
 ) -> Result<(), AllocError>
     ensures parts { OnOk result (map entries_of_run list.new.items
-        ≡ map entries_of_run list.old.items ++ runs_in memtables.now) }
+        ≡ map entries_of_run list.old.items ++ runs_of_memtables memtables.now) }
     ensures whole { OnOk result (AllByRecursion (λ mem. merged mem.value.runs ≡ mem.value.entries) memtables.now) }
 {
     for mem in memtables {

@@ -5,7 +5,7 @@ ghost use Rattle.st_base.specs.Rows.{mark_of};
 ghost use Rattle.st_merge.specs.Scan.{cut_pairs, live_pairs};
 ghost use Rattle.st_order.specs.Order.{between};
 ghost use Rattle.st_order.specs.Sorted.{merged};
-ghost use Rattle.st_version.specs.ByKey.{StandByKey};
+ghost use Rattle.job_model.specs.ByKey.{IsByKey};
 ghost use Rattle.st_version.specs.Held.{entries_in, tables_of};
 ghost use Rattle.st_version.specs.Replace.{AreTables, FitLevel, replaced};
 ghost use Rattle.st_version.specs.Run.{entries_of_run};
@@ -144,7 +144,7 @@ impl<T: Rows + Drop> FamilyView<T> {
         requires { level ≤ 6 }
         ensures tables { tables_of result.now ≡ level_at self.now level }
         ensures rows { AreTables (level_at self.now level) }
-        ensures by_key { 1 ≤ level → StandByKey (runs_of (level_at self.now level)) }
+        ensures by_key { 1 ≤ level → IsByKey (runs_of (level_at self.now level)) }
     {
         self.levels.at(level)
     }

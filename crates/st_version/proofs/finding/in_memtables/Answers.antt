@@ -1,5 +1,6 @@
 use Rattle.std.proofs.Common.{sym, ap, ◌∙◌, arith}
-use Rattle.core_model.specs.Column.{found_at, of_key}
+use Rattle.st_order.specs.Columns.{of_key}
+use Rattle.job_model.specs.Column.{found_at}
 use Rattle.st_base.specs.Rows.{mark_of}
 use Rattle.st_memtable.specs.Memtable.{MemView}
 use Rattle.st_version.specs.Held.{SharedMem}

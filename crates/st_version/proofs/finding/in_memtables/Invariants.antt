@@ -1,5 +1,6 @@
 use Rattle.std.proofs.Common.{◌≡◌, drop}
-use Rattle.core_model.specs.Column.{column, found_at}
+use Rattle.st_order.specs.Columns.{column}
+use Rattle.job_model.specs.Column.{found_at}
 use Rattle.st_version.specs.Held.{entries_in}
 use Rattle.st_version.proofs.finding.in_memtables.Given as goal
 

@@ -1,5 +1,6 @@
 use Rattle.std.proofs.Common.{◌≡◌, drop, map}
-use Rattle.core_model.specs.Column.{column, found_at}
+use Rattle.st_order.specs.Columns.{column}
+use Rattle.job_model.specs.Column.{found_at}
 use Rattle.st_version.proofs.finding.in_tables.Given as goal
 
 -- what is found is found in the tables that are left

@@ -1,5 +1,5 @@
 use Rattle.std.proofs.Common.{length}
-use Rattle.core_model.specs.Column.{Pairwise}
+use Rattle.st_order.specs.Columns.{Pairwise}
 use Rattle.st_version.specs.Held.{tables_of}
 use Rattle.st_version.specs.Replace.{DontMeet}
 use Rattle.st_version.proofs.fitting.are_apart.Given as goal

@@ -2,7 +2,8 @@ use Rattle.std.proofs.Common.{◌≡◌, ◌<◌, ◌-◌, List, [], get_or, len
 use Rattle.std.proofs.lemmas.List.{length-map}
 use Rattle.std.proofs.lemmas.List.Sums.{prefix_len-le-length}
 use Rattle.st_base.specs.declared.entry.Entry.{Entry}
-use Rattle.core_model.specs.Column.{found_at, of_key}
+use Rattle.st_order.specs.Columns.{of_key}
+use Rattle.job_model.specs.Column.{found_at}
 use Rattle.st_order.proofs.Mapped.{mapped_there}
 use Rattle.st_version.specs.ByKey.{starts_by}
 use Rattle.st_version.proofs.ByKey.{in_last_started, last_is, last_started}

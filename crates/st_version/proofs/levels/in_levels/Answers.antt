@@ -1,7 +1,8 @@
 use Rattle.std.proofs.Common.{◌+◌, drop, map, sym, ap, ◌∙◌, arith}
 use Rattle.std.specs.Prelude.{flat_map}
 use Rattle.std.specs.Option.{option_or}
-use Rattle.core_model.specs.Column.{column, found_at}
+use Rattle.st_order.specs.Columns.{column}
+use Rattle.job_model.specs.Column.{found_at}
 use Rattle.st_base.specs.Levels.{levels_of}
 use Rattle.st_base.specs.Rows.{mark_of}
 use Rattle.st_version.proofs.FoundIn.{or_some}

@@ -1,6 +1,7 @@
 use Rattle.std.proofs.Common.{◌≡◌, ◌-◌, ◌≤◌, drop, map}
 use Rattle.std.specs.Prelude.{flat_map}
-use Rattle.core_model.specs.Column.{column, found_at}
+use Rattle.st_order.specs.Columns.{column}
+use Rattle.job_model.specs.Column.{found_at}
 use Rattle.st_base.specs.Levels.{levels_of}
 use Rattle.st_version.proofs.levels.in_levels.Given as goal
 

@@ -1,5 +1,6 @@
 use Rattle.std.proofs.Common.{Some, drop, map, option_map, ap, ◌∙◌}
-use Rattle.core_model.specs.Column.{column, found_at, of_key}
+use Rattle.st_order.specs.Columns.{column, of_key}
+use Rattle.job_model.specs.Column.{found_at}
 use Rattle.st_base.specs.Levels.{levels_of}
 use Rattle.st_base.specs.Rows.{mark_of}
 use Rattle.st_memtable.specs.Memtable.{MemView}
