@@ -40,7 +40,7 @@ mod ChangesSound
 mod Outline
 mod PlainEvents
 pub mod ToldByColumns
-mod ReopenedFamily
+pub mod ReopenedFamily
 pub mod CrashEvent
 pub mod FamilyEvents
 mod TurnEvents

@@ -156,7 +156,7 @@ marks_folded : (writes : List Entry) (marks : List (List ℕ × Mark)) → with_
 marks_folded [] marks = refl
 marks_folded (w ∷ ws) marks = marks_folded ws (set_at marks w.key w.mark)
 
-newest_rise : (kept : ModelFamily) → KeysRise kept.base → Rise (newest_marks kept)
+pub newest_rise : (kept : ModelFamily) → KeysRise kept.base → Rise (newest_marks kept)
 newest_rise kept h = subst Rise (sym (marks_folded kept.writes kept.base)) (set_all_rise kept.writes kept.base (pairs_of_all (λ (x y : List ℕ × Mark). IsTrue (below x.0 y.0)) kept.base h))
 
 pub newest_value : (kept : ModelFamily) (last : ℕ) (key : List ℕ) → WritesWithin last kept → value_at (newest_marks kept) key ≡ mark_at kept last key

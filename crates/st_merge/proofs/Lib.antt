@@ -5,4 +5,4 @@ mod Moves
 mod Spots
 mod Scans
 mod Reaching
-mod Readable
+pub mod Readable
