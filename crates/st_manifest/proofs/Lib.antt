@@ -6,3 +6,4 @@ pub mod Appending
 pub mod Groups
 pub mod Ready
 pub mod Rooting
+pub mod Atomic

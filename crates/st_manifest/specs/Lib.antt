@@ -6,3 +6,4 @@ pub mod Behind
 pub mod Readings
 pub mod Manifest
 pub mod Root
+pub mod Laws

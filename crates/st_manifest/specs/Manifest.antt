@@ -3,8 +3,6 @@ use Rattle.std.specs.Prelude.{◌≡◌, ◌⊎◌, ◌==◌, ◌++◌, ◌∷�
 use Rattle.st_device.specs.Disk.{DiskTold}
 use Rattle.st_gate.specs.Kind.{kind_bytes}
 use Rattle.st_gate.specs.Rest.{IsAtRest}
-use Rattle.st_gate.specs.declared.fault.ReplayFault.{ReplayFault}
-use Rattle.st_gate.specs.declared.fault.ReplayFault.TheVariants.{Damaged, DiskFault, OutOfMemory}
 use Rattle.st_gate.specs.declared.kind.LogKind.TheVariants.{Manifest as ManifestKind}
 use Rattle.st_gate.specs.declared.record.Record.{Record}
 use Rattle.manifest_edits.specs.Edits.{Edit, GroupRecord, ManifestReading, Named, edits_of, manifest_reading_none, named_none, read_records}
@@ -45,12 +43,6 @@ manifest_replayed (LogFound records end) = edits_or_damage records end (read_rec
 -- these edits, or these and the others
 abbrev pub IsGroupOrNot : List Edit → List Edit → Result (List Edit) ℕ → Type 0
 IsGroupOrNot edits more found = (found ≡ Ok edits) ⊎ (found ≡ Ok (edits ++ more))
-
--- damage is told where the manifest has it, with its place
-abbrev pub IsManifestDamage : ℕ → Result (List Edit) ℕ → ReplayFault → Type 0
-IsManifestDamage file found (Damaged where_file at) = (where_file ≡ file) × (found ≡ Err at)
-IsManifestDamage file found DiskFault = Unit {0}
-IsManifestDamage file found OutOfMemory = Unit {0}
 
 -- ---- on a disk
 

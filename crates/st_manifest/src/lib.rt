@@ -8,11 +8,13 @@
 mod append;
 mod edit;
 mod group;
+mod laws;
 mod manifest;
 mod payload;
 mod root;
 
 pub use edit::Edit;
 pub use group::Group;
+pub use laws::group_is_atomic;
 pub use manifest::Manifest;
 pub use root::{MARK_FILE, ROOT_FILE, RootRecord, root_append, root_make, root_replay};
