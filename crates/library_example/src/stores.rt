@@ -1,9 +1,8 @@
 //! A store on a disk in memory: opened, written, and opened again. A function answers None where a call that it makes
 //! refuses.
 ghost use Rattle.std.specs.Prelude.{IfOk, IfSome};
-ghost use Rattle.st_device.specs.Disk.{IsHonest};
 ghost use Rattle.st_device.specs.MemDisk.{told};
-ghost use Rattle.log_engine.specs.Engine.{IsTied};
+ghost use Rattle.log_engine.specs.Engine.{IsReadyOn};
 ghost use Rattle.log_engine.specs.Op.{IsWrite};
 
 use log_engine::{Engine, Options};
@@ -32,8 +31,7 @@ fn write_of(alloc: Global, key: &[u8], value: &[u8]) -> Result<Batch, MakeFault>
 
 // The store of the disk, which is made where it isn't there. The clause is what `Engine::write` asks for.
 fn open(alloc: Global, disk: MemDisk) -> Option<Engine<MemDisk>>
-    ensures { IfSome result
-        (λ engine. IsHonest (told engine.disk) → IsTied engine.wal engine.store (told engine.disk)) }
+    ensures { IfSome result (λ engine. IsReadyOn engine (told engine.disk)) }
 {
     match Engine::open(alloc, disk, OPTIONS) {
         Ok(engine) => Some(engine),

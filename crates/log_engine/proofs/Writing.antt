@@ -18,7 +18,7 @@ use Rattle.st_model.specs.Answer.{write_refusals}
 use Rattle.st_model.specs.Apply.{op_key, with_ops, write_charge}
 use Rattle.st_model.specs.Contents.{contents}
 use Rattle.st_model.specs.Causes.{is_stop}
-use Rattle.log_recover.specs.Contents.{contents_in, contents_of, written_marks}
+use Rattle.log_recover.specs.Contents.{OpenedContents, contents_in, contents_of, opened_or_damage, written_marks}
 use Rattle.log_recover.specs.Opens.{first_log_fault, last_number, opens}
 use Rattle.log_recover.proofs.Store.{append_leaves, append_store, last_append, sound_append, store_opens}
 use Rattle.st_wal.specs.Batch.{Operation, batch_of}
@@ -184,7 +184,7 @@ module _ (store : MarkStore) (state : ModelState) (batch : Batch) (stands : Stan
 -- ---- on the disk
 
 pub in_image : (behind : Bool) (image : Image) (logs : List Logged) → opens image ≡ Ok logs → contents_in behind image ≡ Some (contents_of behind logs)
-in_image behind image logs is = ap (λ r. option_map (contents_of behind) (result_ok r)) is
+in_image behind image logs is = ap (λ r. option_map (λ (opened : OpenedContents). opened.contents) (result_ok (opened_or_damage behind r))) is
 
 -- the store's operations, and those of a write
 module _ {a b : DiskTold} (wal : Wal) (store : MarkStore) (batch : Batch) (payload : List ℕ) (tied : IsTied wal store a)

@@ -1,5 +1,5 @@
 -- An engine and its disk.
-use Rattle.std.specs.Prelude.{◌≡◌, ◌+◌, ℕ, Bool, List, length, slice_get, Some, None, Ok}
+use Rattle.std.specs.Prelude.{◌≡◌, ◌+◌, ℕ, Bool, length, slice_get, Some, None, Ok}
 use Rattle.st_device.specs.Disk.{Image, DiskTold, IsHonest}
 use Rattle.st_model.specs.declared.change.Batch.{Batch}
 use Rattle.st_model.specs.declared.change.Change.TheVariants.{Write}
@@ -7,14 +7,14 @@ use Rattle.st_model.specs.declared.state.ModelState.{ModelState}
 use Rattle.st_model.specs.Answer.{write_refusals}
 use Rattle.st_model.specs.Apply.{apply}
 use Rattle.st_model.specs.Contents.{contents, opened}
-use Rattle.log_recover.specs.Contents.{contents_in, contents_of, known_of}
-use Rattle.log_recover.specs.Opens.{opens}
+use Rattle.log_recover.specs.Contents.{OpenedContents, contents_in, disk_contents}
 use Rattle.log_recover.specs.Store.{IsStore}
 use Rattle.st_wal.specs.Wal.{operations}
-use Rattle.st_wal.specs.declared.logged.Logged.{Logged}
 use Rattle.st_wal.specs.declared.wal.Wal.{Wal}
 use Rattle.log_engine.specs.MarkStore.{HoldsOperations, StandsForState}
 use Rattle.log_engine.specs.declared.engine.AcceptedWrite.{AcceptedWrite}
+use Rattle.log_engine.specs.declared.engine.Engine.{Engine}
+use Rattle.log_engine.specs.declared.engine.Options.{Options}
 use Rattle.log_engine.specs.declared.store.MarkStore.{MarkStore}
 
 -- the disk has the store, and the store in memory is what its operations leave
@@ -22,11 +22,31 @@ pub record IsTied (wal : Wal) (store : MarkStore) (disk : DiskTold) : Type 0 whe
   pub on_disk : IsStore wal disk
   pub holds : HoldsOperations store (operations wal disk)
 
--- the store was opened from these operations, which are those that the disk read, where it tells
-pub record IsOpened (disk : DiskTold) (behind : Bool) (store : MarkStore) : Type 0 where
-  pub ops : List Logged
-  pub read : IsHonest disk → opens disk.reads ≡ Ok ops
-  pub stands : StandsForState store (opened (contents_of behind ops) (known_of ops))
+-- the engine stands for this state of the model
+abbrev pub Stands : {D : Type 0} → Engine D → ModelState → Type 0
+Stands engine state = StandsForState engine.store state
+
+-- the greatest charge of the engine's store
+abbrev pub capacity_of : {D : Type 0} → Engine D → ℕ
+capacity_of engine = engine.store.capacity
+
+-- the engine has the flag and the capacity of these options
+abbrev pub HasOptions : {D : Type 0} → Engine D → Options → Type 0
+HasOptions engine options = (engine.store.behind ≡ options.behind) × (engine.store.capacity ≡ options.capacity)
+
+-- flag and capacity are the same
+abbrev pub SameOptions : {D : Type 0} → Engine D → Engine D → Type 0
+SameOptions old new = (new.store.behind ≡ old.store.behind) × (new.store.capacity ≡ old.store.capacity)
+
+-- unless a fault stopped the engine, an honest disk that tells this has what the engine keeps in memory
+abbrev pub IsReadyOn : {D : Type 0} → Engine D → DiskTold → Type 0
+IsReadyOn engine disk = IsHonest disk → engine.stopped ≡ None → IsTied engine.wal engine.store disk
+
+-- The engine was opened from these contents with their known keys, which are those that the disk read, where it is honest.
+pub record IsOpened {D : Type 0} (disk : DiskTold) (behind : Bool) (engine : Engine D) : Type 0 where
+  pub from : OpenedContents
+  pub read : IsHonest disk → disk_contents behind disk.reads ≡ Ok from
+  pub stands : Stands engine (opened from.contents from.known)
 
 -- the image opens to what is left of this state where the store stops
 abbrev pub OpensTo : ModelState → Image → Type 0

@@ -7,7 +7,8 @@ ghost use Rattle.st_model.specs.Causes.{is_stop};
 ghost use Rattle.st_model.specs.Answer.{unknown_families, write_refusals};
 ghost use Rattle.st_model.specs.Reads.{found, get_answer};
 ghost use Rattle.st_model.specs.Apply.{write_charge};
-ghost use Rattle.log_recover.specs.Opens.{IsDamageOf, opens};
+ghost use Rattle.log_recover.specs.Contents.{SameContents, disk_contents};
+ghost use Rattle.log_recover.specs.Opens.{IsDamageOf};
 ghost use Rattle.st_wal.specs.Logged.{IsWithOrWithout, logged_record, read_as_log};
 ghost use Rattle.st_wal.specs.Wal.{IsReady, operations};
 ghost use Rattle.log_engine.specs.Newest.{HasRoom, newest_at};
@@ -50,35 +51,33 @@ pub struct Engine<D: Disk> {
 }
 
 impl<D: Disk> Engine<D> {
-    ghost use Rattle.log_engine.specs.Engine.{IsAccepted, IsOpened, IsTied, OpensTo, state_written};
+    ghost use Rattle.log_engine.specs.Engine.{HasOptions, IsAccepted, IsOpened, IsReadyOn, IsTied, OpensTo, SameOptions, Stands, capacity_of, state_written};
     ghost use Rattle.log_engine.specs.Op.{IsWrite};
-    ghost use Rattle.log_engine.specs.MarkStore.{IsAdvanced, IsFirst, StandsForState};
+    ghost use Rattle.log_engine.specs.MarkStore.{IsAdvanced, IsFirst};
 
     /// Opens the store of a disk, or makes it where it isn't there. Every refusal hands the disk back. `Damaged` comes
     /// exactly where the disk reads a store that is damaged; a disk fault or `OutOfMemory` may come instead.
     pub fn open(alloc: Global, mut disk: D, options: Options) -> Result<Engine<D>, (D, OpenFault)>
-        // The store stands for the state that an opening makes of the contents that the disk reads.
-        ensures opened { IfOk result (λ engine. IsOpened (D.tells disk) options.behind engine.store) }
-        ensures tied { IfOk result
-            (λ engine. IsHonest (D.tells disk) → IsTied engine.wal engine.store (D.tells engine.disk)) }
-        ensures options { IfOk result
-            (λ engine. (engine.store.behind ≡ options.behind) × (engine.store.capacity ≡ options.capacity)) }
+        // The engine stands for the state that an opening makes of the contents that the disk reads.
+        ensures opened { IfOk result (λ engine. IsOpened (D.tells disk) options.behind engine) }
+        ensures ready { IfOk result (λ engine. IsReadyOn engine (D.tells engine.disk)) }
+        ensures options { IfOk result (λ engine. HasOptions engine options) }
         ensures running { IfOk result (λ engine. engine.stopped ≡ None) }
-        ensures damage { IfErr result
-            (λ back. IsHonest (D.tells disk) → IsDamageOf (opens (D.tells disk).reads) back.1) }
+        ensures damage { IfErr result (λ back. IsHonest (D.tells disk)
+            → IsDamageOf (disk_contents options.behind (D.tells disk).reads) back.1) }
 
         // Each image of a crash within the call is one that a crash at its beginning could leave, or opens to what the
         // disk read then. After Ok each does the latter.
         ensures crash { IfOk result
             (λ engine. IsHonest (D.tells disk)
-            → Leaves (λ image. (D.tells disk).now image ⊎ (opens image ≡ opens (D.tells disk).reads)) (D.tells disk)
+            → Leaves (λ image. (D.tells disk).now image ⊎ SameContents image (D.tells disk).reads) (D.tells disk)
             (D.tells engine.disk)) }
         ensures crash_err { IfErr result
             (λ back. IsHonest (D.tells disk)
-            → Leaves (λ image. (D.tells disk).now image ⊎ (opens image ≡ opens (D.tells disk).reads)) (D.tells disk)
+            → Leaves (λ image. (D.tells disk).now image ⊎ SameContents image (D.tells disk).reads) (D.tells disk)
             (D.tells back.0)) }
         ensures after { IfOk result (λ engine. IsHonest (D.tells disk) → (image : Image)
-            → (D.tells engine.disk).now image → opens image ≡ opens (D.tells disk).reads) }
+            → (D.tells engine.disk).now image → SameContents image (D.tells disk).reads) }
 
         ensures disk { IfOk result
             (λ engine. ChangesDisk (D.tells disk) (D.tells engine.disk) (D.tells engine.disk).top ⊥) }
@@ -102,7 +101,7 @@ impl<D: Disk> Engine<D> {
 
     /// How many changes were accepted since the opening.
     pub fn place(&self) -> u64
-        ensures { result ≡ self.now.store.place }
+        ensures { (state : ModelState) → Stands self.now state → result ≡ state.place }
     {
         self.store.place
     }
@@ -123,9 +122,9 @@ impl<D: Disk> Engine<D> {
 
     /// What the key reads now. The refusals are `UnknownFamily` and `OutOfMemory`.
     pub fn read_now(&self, family: &Family, key: &Key) -> Result<Option<Value>, ChangeFault>
-        ensures ok { IfOk result (λ value. (state : ModelState) → StandsForState self.now.store state
+        ensures ok { IfOk result (λ value. (state : ModelState) → Stands self.now state
             → get_answer state state.last family.now key.now ≡ found value) }
-        ensures refused { IfErr result (λ refusal. (state : ModelState) → StandsForState self.now.store state
+        ensures refused { IfErr result (λ refusal. (state : ModelState) → Stands self.now state
             → IsFirst (unknown_families state (family.now ∷ [])) refusal) }
         ensures no_stop { IfErr result (λ refusal. is_stop (Reply.Refused refusal) ≡ false) }
     {
@@ -178,30 +177,28 @@ impl<D: Disk> Engine<D> {
     /// the store full, a disk fault. All memory is taken before the first device call.
     pub fn write(&mut self, batch: &Batch) -> Result<AcceptedWrite, ChangeFault>
         requires limits { IsWrite batch.now.ops }
-        requires tied { IsHonest (D.tells self.old.disk) → self.old.stopped ≡ None
-            → IsTied self.old.wal self.old.store (D.tells self.old.disk) }
+        requires ready { IsReadyOn self.old (D.tells self.old.disk) }
 
         // An accepted write is the model's, and the engine then stands for the state after it.
-        ensures accepted { OnOk result ((state : ModelState) → StandsForState self.old.store state
-            → StandsForState self.new.store (state_written state batch.now)) }
-        ensures numbers { IfOk result (λ wrote. (state : ModelState) → StandsForState self.old.store state
-            → IsAccepted self.old.store.capacity state batch.now wrote) }
+        ensures accepted { OnOk result ((state : ModelState) → Stands self.old state
+            → Stands self.new (state_written state batch.now)) }
+        ensures numbers { IfOk result (λ wrote. (state : ModelState) → Stands self.old state
+            → IsAccepted (capacity_of self.old) state batch.now wrote) }
         // A refused one is refused by the first refusal that holds, and changes no answer.
-        ensures refused { IfErr result (λ refusal. (state : ModelState) → StandsForState self.old.store state
-            → IsFirst (write_refusals state self.old.store.capacity batch.now.ops) refusal) }
+        ensures refused { IfErr result (λ refusal. (state : ModelState) → Stands self.old state
+            → IsFirst (write_refusals state (capacity_of self.old) batch.now.ops) refusal) }
         ensures unchanged { OnErr result
-            ((state : ModelState) → StandsForState self.old.store state → StandsForState self.new.store state) }
+            ((state : ModelState) → Stands self.old state → Stands self.new state) }
 
         // Each image of a crash within the call opens to the contents before the write or after it; after Ok to the latter.
         ensures crash { IsHonest (D.tells self.old.disk) → self.old.stopped ≡ None → (state : ModelState)
-            → StandsForState self.old.store state
+            → Stands self.old state
             → Leaves (λ image. OpensTo state image ⊎ OpensTo (state_written state batch.now) image)
             (D.tells self.old.disk) (D.tells self.new.disk) }
         ensures after { IsHonest (D.tells self.old.disk)
-            → OnOk result ((state : ModelState) → StandsForState self.old.store state → (image : Image)
+            → OnOk result ((state : ModelState) → Stands self.old state → (image : Image)
             → (D.tells self.new.disk).now image → OpensTo (state_written state batch.now) image) }
-        ensures tied { IsHonest (D.tells self.old.disk) → self.new.stopped ≡ None
-            → IsTied self.new.wal self.new.store (D.tells self.new.disk) }
+        ensures ready { IsReadyOn self.new (D.tells self.new.disk) }
 
         // A disk fault stops the engine, which makes no further device call.
         ensures stopped { IsErrOf result Refusal.Stopped ↔ IsSome self.old.stopped }
@@ -210,8 +207,7 @@ impl<D: Disk> Engine<D> {
         ensures untouched { IfErr result
             (λ refusal. (refusal ≡ Refusal.DiskFault → ⊥) → self.new.disk ≡ self.old.disk) }
 
-        ensures options { (self.new.store.behind ≡ self.old.store.behind)
-            × (self.new.store.capacity ≡ self.old.store.capacity) }
+        ensures options { SameOptions self.old self.new }
         ensures disk { ChangesDisk (D.tells self.old.disk) (D.tells self.new.disk) (D.tells self.old.disk).top
             (IsErrOf result Refusal.DiskFault) }
     {

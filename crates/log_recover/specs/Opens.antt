@@ -47,8 +47,8 @@ files_open (Some mark) log = log_opens (read_as_log log)
 abbrev pub opens : Image → Result (List Logged) Damage
 opens image = files_open (image 1) (image 3)
 
--- damage is told where the image has it, with its offset
-abbrev pub IsDamageOf : Result (List Logged) Damage → OpenFault → Type 0
+-- damage is told where that is what was opened to, with its offset
+abbrev pub IsDamageOf : {T : Type 0} → Result T Damage → OpenFault → Type 0
 IsDamageOf opened (Damaged file at) = opened ≡ Err (record { file = file; at = at })
 IsDamageOf opened DiskFault = Unit {0}
 IsDamageOf opened OutOfMemory = Unit {0}

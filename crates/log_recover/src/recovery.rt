@@ -1,7 +1,8 @@
 // A store is opened.
-ghost use Rattle.std.specs.Prelude.{◌≡◌, ◌⊎◌, IfErr, IfOk, IsErrOf, IsSome, Ok, OnOk};
+ghost use Rattle.std.specs.Prelude.{◌≡◌, ◌⊎◌, Bool, IfErr, IfOk, IsErrOf, IsSome, Ok, OnOk};
 ghost use Rattle.st_device.specs.Disk.{ChangesDisk, Image, IsHonest, Leaves, ReadsDisk};
 ghost use Rattle.st_wal.specs.Wal.{operations};
+ghost use Rattle.log_recover.specs.Contents.{SameContents, disk_contents, opened_contents};
 ghost use Rattle.log_recover.specs.Opens.{IsDamageOf, first_log_fault, opens};
 ghost use Rattle.log_recover.specs.Store.{IsSettled, IsStore};
 
@@ -49,26 +50,18 @@ fn read_log<D: Disk>(alloc: Global, disk: &mut D) -> Result<(List<Logged>, Wal),
     }
 }
 
-/// Opens the store of a disk, or makes a new one where its mark isn't there: its operations, in order, and its log.
-///
-/// Every file that is there is synced first. `Damaged` comes exactly where the disk reads a store that is damaged, with
-/// the offset of its damage; a disk fault or `OutOfMemory` may come instead.
-pub fn recover<D: Disk>(alloc: Global, disk: &mut D) -> Result<(List<Logged>, Wal), OpenFault>
-    // What is opened is what the disk reads.
+// The operations of the store of a disk, with its log; or a new store is made.
+fn read_store<D: Disk>(alloc: Global, disk: &mut D) -> Result<(List<Logged>, Wal), OpenFault>
     ensures ok { IsHonest (D.tells disk.old) → IfOk result (λ read. opens (D.tells disk.old).reads ≡ Ok read.0) }
     ensures store { IsHonest (D.tells disk.old) → IfOk result (λ read. IsStore read.1 (D.tells disk.new)) }
     ensures operations { IsHonest (D.tells disk.old)
         → IfOk result (λ read. operations read.1 (D.tells disk.new) ≡ read.0) }
     ensures damage { IsHonest (D.tells disk.old) → IfErr result (IsDamageOf (opens (D.tells disk.old).reads)) }
-
-    // Each image of a crash within the call is one that a crash at its beginning could leave, or opens to what the disk
-    // read then. After Ok each does the latter.
     ensures crash { IsHonest (D.tells disk.old)
         → Leaves (λ image. (D.tells disk.old).now image ⊎ (opens image ≡ opens (D.tells disk.old).reads))
         (D.tells disk.old) (D.tells disk.new) }
     ensures after { IsHonest (D.tells disk.old)
         → OnOk result ((image : Image) → (D.tells disk.new).now image → opens image ≡ opens (D.tells disk.old).reads) }
-
     ensures disk { ChangesDisk (D.tells disk.old) (D.tells disk.new) (D.tells disk.new).top
         (IsErrOf result OpenFault.DiskFault) }
 {
@@ -78,4 +71,32 @@ pub fn recover<D: Disk>(alloc: Global, disk: &mut D) -> Result<(List<Logged>, Wa
     }
     let wal = make_store(disk)?;
     Ok((List::new(alloc), wal))
+}
+
+/// Opens the store of a disk, or makes a new one where its mark isn't there: its operations, in order, and its log.
+///
+/// Every file that is there is synced first. `Damaged` comes exactly where the disk reads a store that is damaged, with
+/// the offset of its damage; a disk fault or `OutOfMemory` may come instead.
+pub fn recover<D: Disk>(alloc: Global, disk: &mut D) -> Result<(List<Logged>, Wal), OpenFault>
+    // The operations leave the contents, and the known keys, that the disk reads.
+    ensures ok { IsHonest (D.tells disk.old) → IfOk result (λ read. (behind : Bool)
+        → disk_contents behind (D.tells disk.old).reads ≡ Ok (opened_contents behind read.0)) }
+    ensures store { IsHonest (D.tells disk.old) → IfOk result (λ read. IsStore read.1 (D.tells disk.new)) }
+    ensures operations { IsHonest (D.tells disk.old)
+        → IfOk result (λ read. operations read.1 (D.tells disk.new) ≡ read.0) }
+    ensures damage { IsHonest (D.tells disk.old) → IfErr result (λ fault. (behind : Bool)
+        → IsDamageOf (disk_contents behind (D.tells disk.old).reads) fault) }
+
+    // Each image of a crash within the call is one that a crash at its beginning could leave, or opens to what the disk
+    // read then. After Ok each does the latter.
+    ensures crash { IsHonest (D.tells disk.old)
+        → Leaves (λ image. (D.tells disk.old).now image ⊎ SameContents image (D.tells disk.old).reads)
+        (D.tells disk.old) (D.tells disk.new) }
+    ensures after { IsHonest (D.tells disk.old)
+        → OnOk result ((image : Image) → (D.tells disk.new).now image → SameContents image (D.tells disk.old).reads) }
+
+    ensures disk { ChangesDisk (D.tells disk.old) (D.tells disk.new) (D.tells disk.new).top
+        (IsErrOf result OpenFault.DiskFault) }
+{
+    read_store(alloc, disk)
 }

@@ -30,11 +30,11 @@ returns-in_err-prepared-clause-unchanged g c = err_fact c.from_residual.result (
 
 pub returns-in_err-prepared-clause-crash : goal.returns-in_err-prepared-clause-crash
 returns-in_err-prepared-clause-crash g c = λ honest running state h image left.
-    inl (tied_opens c.args.self.now.wal c.args.self.now.store state (c.requires.tied honest running) h image ((g.met.D.Disk.clock c.args.self.now.disk).only_now image left))
+    inl (tied_opens c.args.self.now.wal c.args.self.now.store state (c.requires.ready honest running) h image ((g.met.D.Disk.clock c.args.self.now.disk).only_now image left))
 
-pub returns-in_err-prepared-clause-tied : goal.returns-in_err-prepared-clause-tied
-returns-in_err-prepared-clause-tied g c = λ honest running.
-    let tied = c.requires.tied honest running in
+pub returns-in_err-prepared-clause-ready : goal.returns-in_err-prepared-clause-ready
+returns-in_err-prepared-clause-ready g c = λ honest running.
+    let tied = c.requires.ready honest running in
     record { on_disk = tied.on_disk; holds = same_holds c.args.self.now.store c.prepare.new.self _ c.prepare.ensures.unchanged tied.holds }
 
 -- ---- on the disk
@@ -45,7 +45,7 @@ not_stopped (Some x) e = absurd (cc e)
 
 pub append-requires-clause-tied : goal.append-requires-clause-tied
 append-requires-clause-tied g c = λ honest.
-    let tied = c.requires.tied honest (not_stopped c.args.self.now.stopped (sym c.is_some.ensures ∙ c.if-is_some.false)) in
+    let tied = c.requires.ready honest (not_stopped c.args.self.now.stopped (sym c.is_some.ensures ∙ c.if-is_some.false)) in
     record { on_disk = tied.on_disk; holds = same_holds c.args.self.now.store c.prepare.new.self _ c.prepare.ensures.unchanged tied.holds }
 
 pub returns-clause-accepted : goal.returns-clause-accepted
@@ -91,7 +91,7 @@ returns-clause-crash g c = λ honest running state h.
     let logged : List Op → Option LogBatch = λ l. Some (record { first = store.last + 1; operations = map logged_op l }) in
     let encoded : batch_of payload ≡ logged batch.ops = made.encoded ∙ ap logged c.as_slice.ensures in
     let unrefused = subst (λ (l : List Op). slice_get (write_refusals state store.capacity l) 0 ≡ None) c.as_slice.ensures (made.unrefused state h) in
-    write_leaves c.args.self.now.wal store batch payload (c.requires.tied honest running) encoded (c.append.ensures.log honest) state h unrefused
+    write_leaves c.args.self.now.wal store batch payload (c.requires.ready honest running) encoded (c.append.ensures.log honest) state h unrefused
 
 pub returns-clause-after : goal.returns-clause-after
 returns-clause-after g c = λ honest.
@@ -101,7 +101,7 @@ returns-clause-after g c = λ honest.
     let new = c.append.new.self.store in
     let made = c.in_ok-prepared.ensures in
     let payload = c.in_ok-prepared.prepared.encoded in
-    let tied = c.requires.tied honest (not_stopped c.args.self.now.stopped (sym c.is_some.ensures ∙ c.if-is_some.false)) in
+    let tied = c.requires.ready honest (not_stopped c.args.self.now.stopped (sym c.is_some.ensures ∙ c.if-is_some.false)) in
     let logged : List Op → Option LogBatch = λ l. Some (record { first = store.last + 1; operations = map logged_op l }) in
     let encoded : batch_of payload ≡ logged batch.ops = made.encoded ∙ ap logged c.as_slice.ensures in
     let ops : c.in_ok-prepared.prepared.ops.items ≡ map logged_op batch.ops = made.ops ∙ ap (map logged_op) c.as_slice.ensures in
@@ -117,15 +117,16 @@ returns-clause-after g c = λ honest.
     (λ (marks : (key : List ℕ) → newest_at new.newest key ≡ marks_after_all (newest_at mid.newest) c.in_ok-prepared.prepared.ops.items key) (numbers : IsAdvanced mid new (length c.in_ok-prepared.prepared.ops.items) c.in_ok-prepared.prepared.charge). (marks, numbers)) c.append.ensures.marks c.append.ensures.numbers)
     (c.append.ensures.ready honest)
 
-pub returns-clause-tied : goal.returns-clause-tied
-returns-clause-tied g c = λ honest running.
+pub returns-clause-ready : goal.returns-clause-ready
+returns-clause-ready g c = λ honest_new running.
+    let honest = c.append.ensures.disk.passes.honest_back honest_new in
     let store = c.args.self.now.store in
     let batch = c.args.batch.now in
     let mid = c.prepare.new.self in
     let new = c.append.new.self.store in
     let made = c.in_ok-prepared.ensures in
     let payload = c.in_ok-prepared.prepared.encoded in
-    let tied = c.requires.tied honest (not_stopped c.args.self.now.stopped (sym c.is_some.ensures ∙ c.if-is_some.false)) in
+    let tied = c.requires.ready honest (not_stopped c.args.self.now.stopped (sym c.is_some.ensures ∙ c.if-is_some.false)) in
     let logged : List Op → Option LogBatch = λ l. Some (record { first = store.last + 1; operations = map logged_op l }) in
     let encoded : batch_of payload ≡ logged batch.ops = made.encoded ∙ ap logged c.as_slice.ensures in
     let ops : c.in_ok-prepared.prepared.ops.items ≡ map logged_op batch.ops = made.ops ∙ ap (map logged_op) c.as_slice.ensures in
