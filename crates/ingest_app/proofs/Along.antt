@@ -1,5 +1,5 @@
 -- The calls of the only client, one after the other.
-use Rattle.std.proofs.Common.{◌≡◌, ◌≢◌, ◌⊎◌, inl, inr, ⊎_elim, ℕ, zero, suc, ◌+◌, ◌<◌, ◌≤◌, Bool, true, false, cond, nat_eq, List, [], ◌∷◌, ◌++◌, length, map, MatchBool, get_or, Option, Some, None, refl, sym, ◌∙◌, ap, subst, arith, le_trans, le_refl, le_of_eq, true≢false, zero-le, append-nil, ◌-◌, length-append, IsTrue, IsFalse}
+use Rattle.std.proofs.Common.{◌≡◌, ◌≢◌, ◌⊎◌, inl, inr, ⊎_elim, ℕ, zero, suc, ◌+◌, ◌<◌, ◌≤◌, Bool, true, false, cond, nat_eq, List, [], ◌∷◌, ◌++◌, length, map, MatchBool, get_or, Option, Some, None, refl, sym, ◌∙◌, ap, subst, arith, le_trans, le_refl, le_of_eq, true≢false, zero-le, append-nil, append_assoc, ◌-◌, length-append, IsTrue, IsFalse}
 use Rattle.std.specs.Prelude.{is_some, not}
 use Rattle.std.specs.List.{IsDistinct, AllByRecursion as Each}
 use Rattle.std.proofs.lemmas.List.{length-map}
@@ -7,15 +7,15 @@ use Rattle.base_laws.proofs.Lists.{each_as, each_push}
 use Rattle.st_base.specs.declared.limits.TheConstants.{CAPACITY}
 use Rattle.st_device.specs.Disk.{Clock, Image, DiskTold, IsHonest, Leaves, Passes}
 use Rattle.st_device.proofs.Moments.{since_then}
-use Rattle.log_engine.specs.Engine.{OpensTo}
-use Rattle.log_engine.specs.MarkStore.{StandsForState}
-use Rattle.log_engine.specs.declared.store.MarkStore.{MarkStore}
+use Rattle.log_engine.specs.Engine.{OpensTo, Stands, capacity_of}
+use Rattle.log_engine.specs.declared.engine.Engine.{Engine}
 use Rattle.st_model.specs.declared.command.Call.{Call}
 use Rattle.st_model.specs.declared.command.Command.{Command}
 use Rattle.st_model.specs.declared.command.Command.TheVariants.{Write, Get}
 use Rattle.st_model.specs.declared.command.Command.TheVariants as command
 use Rattle.st_model.specs.declared.command.FileSeen.{FileSeen}
 use Rattle.st_model.specs.declared.reply.Reply.{Reply}
+use Rattle.st_model.specs.declared.refusal.Refusal.TheVariants.{Stopped, DiskFault}
 use Rattle.st_model.specs.declared.reply.Reply.TheVariants.{Await, Refused}
 use Rattle.st_model.specs.declared.reply.Reply.TheVariants as reply
 use Rattle.st_model.specs.declared.state.ModelState.{ModelState}
@@ -34,6 +34,7 @@ use Rattle.model_laws.proofs.Grow.{begins_legally, causes_grow, legal_grows, sta
 use Rattle.ingest_app.specs.Answer.{IsOfCall, IsStrangerTold, Prints, EngineSteps, answered_call, asked_alone}
 use Rattle.ingest_app.specs.Client.{transcript}
 use Rattle.ingest_app.specs.Crash.{AreKept, AreMoments, IsAfterFirst, IsAmong, IsOfRun, IsWithCutOff, state_now}
+use Rattle.ingest_app.specs.Faults.{AreStopped, IsFaultLast, IsFaultTold, IsStopTold, IsUnrefused}
 use Rattle.ingest_app.specs.Op.{IsServed, is_served}
 use Rattle.ingest_app.specs.declared.answer.Answer.{Answer}
 use Rattle.ingest_app.proofs.Printed.{transcript_grows, transcript_length}
@@ -44,16 +45,18 @@ no_files commands = map (λ _. []) commands
 
 -- The calls so far are legal, the store stands where they lead, they are printed, and each image opens to the contents
 -- after the first of them.
-pub record Along (name text : List ℕ) (opening : ModelState) (before now : DiskTold) (store : MarkStore) (stopped : Option ℕ) (commands : List Command) : Type 0 where
+pub record Along (name text : List ℕ) (opening : ModelState) (before now : DiskTold) (stands_for : ModelState → Type 0) (stopped : Option ℕ) (commands : List Command) : Type 0 where
   pub calls : List Call
   pub answers : List (ℕ × Reply)
   pub are : AreCallsOf commands (no_files commands) answers calls
   pub state : ModelState
-  pub stands : StandsForState store state
+  pub stands : stands_for state
   pub legal : IsLegal opening CAPACITY (calls ∷ []) 0 (is_some stopped)
   pub newest : state.place ≡ changes_in (calls ∷ [])
   pub is : state ≡ state_at opening (calls ∷ []) state.place
   pub unknown : Each IsStrangerTold calls
+  pub stop : AreStopped calls
+  pub faults : Each (IsFaultTold opening (calls ∷ [])) calls
   pub printed : text ≡ transcript name calls
   pub moments : List ℕ
   pub each_change : length moments ≡ changes_in (calls ∷ [])
@@ -201,6 +204,17 @@ pub none_of : {X : Type 0} (o : Option X) → is_some o ≡ false → o ≡ None
 none_of None e = refl
 none_of (Some x) e = absurd (true≢false e)
 
+-- two facts of each element make a third
+each_with : (P Q R : Call → Type 0) → ((call : Call) → P call → Q call → R call) → (calls : List Call) → Each P calls → Each Q calls → Each R calls
+each_with P Q R both [] p q = tt
+each_with P Q R both (call ∷ calls) p q = (both call p.0 q.0, each_with P Q R both calls p.1 q.1)
+
+-- where none of the calls met a fault, the next alone may have
+fault_last : (calls : List Call) (call : Call) → Each (λ (d : Call). d.reply ≢ Refused DiskFault) calls → IsFaultLast (calls ++ call ∷ [])
+fault_last [] call none = tt
+fault_last (first ∷ []) call none = (none.0, tt)
+fault_last (first ∷ next ∷ calls) call none = (none.0, fault_last (next ∷ calls) call none.1)
+
 -- ---- one call more
 
 -- the calls of the only client are all calls
@@ -321,9 +335,49 @@ module _ (opening : ModelState) (was is : Option ℕ) (calls : List Call) (call 
   pub end_of_run : (image : Image) → is_change call.reply ≡ false → IsOfRun opening ((calls ++ call ∷ []) ∷ []) (changes_in (calls ∷ [])) image → IsOfRun opening ((calls ++ call ∷ []) ∷ []) (changes_in ((calls ++ call ∷ []) ∷ [])) image
   end_of_run image none = subst (λ n. IsOfRun opening ((calls ++ call ∷ []) ∷ []) n image) (sym (same_count none))
 
+  calls_within : Each (λ (d : Call). d.place ≤ changes_in (calls ∷ [])) calls
+  calls_within = subst (Each (λ (d : Call). d.place ≤ changes_in (calls ∷ []))) (all_of_one calls) legal.within
+
+  -- what is told of a fault of the disk stays
+  faults_stay : (d : Call) → d.place ≤ changes_in (calls ∷ []) → IsFaultTold opening (calls ∷ []) d → IsFaultTold opening ((calls ++ call ∷ []) ∷ []) d
+  faults_stay d within told same = subst (λ (s : ModelState). IsUnrefused s CAPACITY d.asked.command) (sym (longer.earlier d.place within)) (told same)
+
+  pub faults_grow : Each (IsFaultTold opening (calls ∷ [])) calls → (call.reply ≡ Refused DiskFault → IsUnrefused state CAPACITY call.asked.command) → Each (IsFaultTold opening ((calls ++ call ∷ []) ∷ [])) (calls ++ call ∷ [])
+  faults_grow so_far now = each_push (IsFaultTold opening ((calls ++ call ∷ []) ∷ [])) calls call
+      (each_with (λ (d : Call). d.place ≤ changes_in (calls ∷ [])) (IsFaultTold opening (calls ∷ [])) (IsFaultTold opening ((calls ++ call ∷ []) ∷ [])) faults_stay calls calls_within so_far)
+      (λ same.
+      let stays : after state call ≡ state = ap (λ (r : Reply). cond (is_change r) (after_call state call) state) same in
+      subst (λ (s : ModelState). IsUnrefused s CAPACITY call.asked.command) (sym stays ∙ longer.is) (now same))
+
+  -- a store that no fault has stopped has told of none
+  quiet_so_far : was ≡ None → Each (λ (d : Call). IsFalse (is_stop d.reply)) calls
+  quiet_so_far none = subst (Each (λ (d : Call). IsFalse (is_stop d.reply))) (all_of_one calls) (legal.causes.disk (ap is_some none))
+
+  pub stop_grows : AreStopped calls → (was ≡ None → call.reply ≢ Refused Stopped) → (is_some was ≡ true → IsStopTold call.asked.command call.reply) → AreStopped (calls ++ call ∷ [])
+  stop_grows so_far running stop = go was refl
+    where
+      go : (o : Option ℕ) → was ≡ o → AreStopped (calls ++ call ∷ [])
+      go None none = record {
+        before = calls ++ call ∷ [];
+        behind = [];
+        are = sym (append-nil (calls ++ call ∷ []));
+        running = each_push (λ (d : Call). d.reply ≢ Refused Stopped) calls call
+            (each_as (λ (d : Call). IsFalse (is_stop d.reply)) (λ (d : Call). d.reply ≢ Refused Stopped) (λ d quiet same. true≢false (sym (ap is_stop same) ∙ quiet)) calls (quiet_so_far none)) (running none);
+        fault = fault_last calls call (each_as (λ (d : Call). IsFalse (is_stop d.reply)) (λ (d : Call). d.reply ≢ Refused DiskFault) (λ d quiet same. true≢false (sym (ap is_stop same) ∙ quiet)) calls (quiet_so_far none));
+        stopped = tt;
+      }
+      go (Some stops) some = record {
+        before = so_far.before;
+        behind = so_far.behind ++ call ∷ [];
+        are = ap (λ cs. cs ++ call ∷ []) so_far.are ∙ append_assoc so_far.before so_far.behind (call ∷ []);
+        running = so_far.running;
+        fault = so_far.fault;
+        stopped = each_push (λ (d : Call). IsStopTold d.asked.command d.reply) so_far.behind call so_far.stopped (stop (ap is_some some));
+      }
+
 -- the answer of the engine as a step of the run
 module _ (opening : ModelState) (failed : Bool) (calls : List Call) (state : ModelState) (one : Command) (answer : Answer) (served : IsServed one) (legal : IsLegal opening CAPACITY (calls ∷ []) 0 failed) (newest : state.place ≡ changes_in (calls ∷ []))
-    (old new : MarkStore) (was is : Option ℕ) (before after_it : DiskTold) (room : old.capacity ≡ CAPACITY) (steps : EngineSteps old new was is before after_it state (answered_call one answer)) where
+    (capacity : ℕ) (stands : ModelState → Type 0) (was is : Option ℕ) (before after_it : DiskTold) (room : capacity ≡ CAPACITY) (steps : EngineSteps capacity stands was is before after_it state (answered_call one answer)) where
   pub plain_reply : IsPlain answer.reply
   plain_reply = served_plain answer.reply steps.served
 
@@ -386,21 +440,30 @@ kept_push opening transcripts now before moment (m ∷ moments) kept last = (
 )
 
 -- the calls with one more
-module _ {D : Type 0} (tells : D → DiskTold) (name text text' : List ℕ) (opening : ModelState) (before : DiskTold) (mid new : D) (old_store new_store : MarkStore) (was is : Option ℕ) (commands : List Command) (one : Command) (heading : ℕ)
+module _ {D : Type 0} (told_of : D → DiskTold) (name text text' : List ℕ) (opening : ModelState) (before : DiskTold) (mid new : Engine D) (commands : List Command) (one : Command) (heading : ℕ)
     (first : heading ≡ length (transcript name [])) (served : IsServed one)
-    (p : Passes before (tells mid)) (q : Passes (tells mid) (tells new)) (room : old_store.capacity ≡ CAPACITY) (old : Along name text opening before (tells mid) old_store was commands)
-    (more : Prints old_store new_store was is (tells mid) (tells new) one heading text text') (same : (was ≡ None) ⊎ (new ≡ mid)) (clock : Clock (tells new)) where
+    (p : Passes before (told_of mid.disk)) (q : Passes (told_of mid.disk) (told_of new.disk)) (room : capacity_of mid ≡ CAPACITY) (old : Along name text opening before (told_of mid.disk) (Stands mid) mid.stopped commands)
+    (more : Prints told_of mid new one heading text text') (same : (mid.stopped ≡ None) ⊎ (new.disk ≡ mid.disk)) (clock : Clock (told_of new.disk)) where
+  abbrev tells : Engine D → DiskTold
+  tells engine = told_of engine.disk
+
+  abbrev was : Option ℕ
+  was = mid.stopped
+
+  abbrev is : Option ℕ
+  is = new.stopped
+
   abbrev call : Call
   call = answered_call one more.answer
 
-  steps : EngineSteps old_store new_store was is (tells mid) (tells new) old.state (answered_call one more.answer)
+  steps : EngineSteps (capacity_of mid) (Stands new) was is (tells mid) (tells new) old.state (answered_call one more.answer)
   steps = more.steps old.state old.stands
 
   plain : IsPlain more.answer.reply
-  plain = plain_reply opening (is_some was) old.calls old.state one more.answer served old.legal old.newest old_store new_store was is (tells mid) (tells new) room steps
+  plain = plain_reply opening (is_some was) old.calls old.state one more.answer served old.legal old.newest (capacity_of mid) (Stands new) was is (tells mid) (tells new) room steps
 
   step : IsStep old.state CAPACITY (old.calls ∷ []) old.calls (answered_call one more.answer)
-  step = step_of opening (is_some was) old.calls old.state one more.answer served old.legal old.newest old_store new_store was is (tells mid) (tells new) room steps
+  step = step_of opening (is_some was) old.calls old.state one more.answer served old.legal old.newest (capacity_of mid) (Stands new) was is (tells mid) (tells new) room steps
       (length text - heading) more.cut (transcript_length name old.calls text heading old.printed first)
 
   -- images since an earlier moment, with those of the call
@@ -410,7 +473,7 @@ module _ {D : Type 0} (tells : D → DiskTold) (name text text' : List ℕ) (ope
       (λ x before_it. more_of_run opening was is old.calls (answered_call one more.answer) old.state old.legal old.newest old.is step plain steps.change steps.still least x (so_far x before_it))
       (λ x during. fewer ((old.calls ++ answered_call one more.answer ∷ []) ∷ []) least (changes_in (old.calls ∷ [])) le x (call_of_run opening was is old.calls (answered_call one more.answer) old.state old.legal old.newest old.is step plain steps.change steps.still x (steps.crash (p.honest_on honest) running x during)))
       image left)
-      (λ (is_same : new ≡ mid). more_of_run opening was is old.calls (answered_call one more.answer) old.state old.legal old.newest old.is step plain steps.change steps.still least image (so_far image (subst (λ disk. (tells disk).since t image) is_same left)))
+      (λ (is_same : new.disk ≡ mid.disk). more_of_run opening was is old.calls (answered_call one more.answer) old.state old.legal old.newest old.is step plain steps.change steps.still least image (so_far image (subst (λ disk. (told_of disk).since t image) is_same left)))
       same
 
   -- images at the end of the call
@@ -421,7 +484,7 @@ module _ {D : Type 0} (tells : D → DiskTold) (name text text' : List ℕ) (ope
       end_of_run opening was is old.calls (answered_call one more.answer) old.state old.legal old.newest old.is step plain steps.change steps.still image none
       (⊎_elim
       (λ (running : was ≡ None). call_of_run opening was is old.calls (answered_call one more.answer) old.state old.legal old.newest old.is step plain steps.change steps.still image (steps.crash (p.honest_on honest) running image (q.ends image now)))
-      (λ (is_same : new ≡ mid). more_of_run opening was is old.calls (answered_call one more.answer) old.state old.legal old.newest old.is step plain steps.change steps.still (changes_in (old.calls ∷ [])) image (old.end honest image (subst (λ disk. (tells disk).now image) is_same now)))
+      (λ (is_same : new.disk ≡ mid.disk). more_of_run opening was is old.calls (answered_call one more.answer) old.state old.legal old.newest old.is step plain steps.change steps.still (changes_in (old.calls ∷ [])) image (old.end honest image (subst (λ disk. (told_of disk).now image) is_same now)))
       same)
 
   -- from now on no image lacks the change
@@ -438,7 +501,7 @@ module _ {D : Type 0} (tells : D → DiskTold) (name text text' : List ℕ) (ope
           kept_push opening ((old.calls ++ answered_call one more.answer ∷ []) ∷ []) (tells new) 0 (tells new).moment old.moments so_far
           (λ image left. subst (λ n. IsOfRun opening ((old.calls ++ answered_call one more.answer ∷ []) ∷ []) n image) count (end_now honest is refl image (clock.only_now image left)))
 
-  pub along_grows : Along name text' opening before (tells new) new_store is (commands ++ one ∷ [])
+  pub along_grows : Along name text' opening before (tells new) (Stands new) is (commands ++ one ∷ [])
   along_grows = record {
     calls = old.calls ++ answered_call one more.answer ∷ [];
     answers = old.answers ++ (more.answer.place, more.answer.reply) ∷ [];
@@ -449,6 +512,9 @@ module _ {D : Type 0} (tells : D → DiskTold) (name text text' : List ℕ) (ope
     newest = newest_now opening was is old.calls (answered_call one more.answer) old.state old.legal old.newest old.is step plain steps.change steps.still;
     is = here_now opening was is old.calls (answered_call one more.answer) old.state old.legal old.newest old.is step plain steps.change steps.still;
     unknown = each_push IsStrangerTold old.calls (answered_call one more.answer) old.unknown steps.unknown;
+    stop = stop_grows opening was is old.calls (answered_call one more.answer) old.state old.legal old.newest old.is step plain steps.change steps.still old.stop steps.running steps.stop;
+    faults = faults_grow opening was is old.calls (answered_call one more.answer) old.state old.legal old.newest old.is step plain steps.change steps.still old.faults
+        (λ same. subst (λ n. IsUnrefused old.state n one) room (steps.fault same));
     printed = transcript_grows name old.calls (answered_call one more.answer) text' text old.printed more.printed;
     moments = next_moments (is_change more.answer.reply) old.moments (tells new).moment;
     each_change = next_count (is_change more.answer.reply) old.moments (tells new).moment (changes_in (old.calls ∷ [])) (changes_in ((old.calls ++ answered_call one more.answer ∷ []) ∷ [])) old.each_change
@@ -461,9 +527,9 @@ module _ {D : Type 0} (tells : D → DiskTold) (name text text' : List ℕ) (ope
   }
 
 -- before the first call
-pub along_start : (name text : List ℕ) (opening : ModelState) (before : DiskTold) (store : MarkStore) (stopped : Option ℕ) → text ≡ transcript name [] → StandsForState store opening → IsOpening opening → stopped ≡ None
-    → (IsHonest before → Leaves (OpensTo opening) before before) → (IsHonest before → (image : Image) → before.now image → OpensTo opening image) → Along name text opening before before store stopped []
-along_start name text opening before store stopped printed stands fresh running leaves opens =
+pub along_start : (name text : List ℕ) (opening : ModelState) (before : DiskTold) (stands_for : ModelState → Type 0) (stopped : Option ℕ) → text ≡ transcript name [] → stands_for opening → IsOpening opening → stopped ≡ None
+    → (IsHonest before → Leaves (OpensTo opening) before before) → (IsHonest before → (image : Image) → before.now image → OpensTo opening image) → Along name text opening before before stands_for stopped []
+along_start name text opening before stands_for stopped printed stands fresh running leaves opens =
     let begins = begins_legally opening CAPACITY ([] ∷ []) fresh (refl, tt) in
     record {
       calls = [];
@@ -475,6 +541,8 @@ along_start name text opening before store stopped printed stands fresh running 
       newest = fresh.place;
       is = sym begins.1 ∙ ap (state_at opening ([] ∷ [])) (sym fresh.place);
       unknown = tt;
+      stop = record { before = []; behind = []; are = refl; running = tt; fault = tt; stopped = tt };
+      faults = tt;
       printed = printed;
       moments = [];
       each_change = refl;

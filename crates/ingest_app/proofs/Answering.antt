@@ -1,6 +1,6 @@
 -- What the engine answers is the model's reply, over plain variables.
 use Rattle.std.proofs.Common.{not, ◌≡◌, ◌⊎◌, inl, inr, ⊎_elim, ℕ, ◌+◌, Bool, true, false, cond, nat_lt, nat_le, List, [], ◌∷◌, ◌++◌, map, length, Option, Some, None, slice_get, refl, sym, ◌∙◌, ap, subst, arith, true≢false}
-use Rattle.std.specs.Prelude.{is_some, IsSome, Result, Ok, Err, IfOk}
+use Rattle.std.specs.Prelude.{◌&&◌, is_some, IsSome, Result, Ok, Err, IfOk}
 use Rattle.st_base.specs.Entries.{add_charge}
 use Rattle.st_device.specs.Disk.{Image, DiskTold, IsHonest, Leaves}
 use Rattle.st_model.specs.declared.change.Batch.{Batch}
@@ -8,6 +8,7 @@ use Rattle.st_model.specs.declared.change.Op.{Op}
 use Rattle.st_model.specs.declared.command.Call.{Call}
 use Rattle.st_model.specs.declared.command.Command.{Command}
 use Rattle.st_model.specs.declared.command.Command.TheVariants.{Write, Get}
+use Rattle.st_model.specs.declared.command.Command.TheVariants as commands
 use Rattle.st_model.specs.declared.refusal.Refusal.{Refusal}
 use Rattle.st_model.specs.declared.refusal.Refusal.TheVariants.{Stopped, UnknownFamily, NumbersSpent, StoreFull, DiskFault, OutOfMemory}
 use Rattle.st_model.specs.declared.refusal.Refusal.TheVariants as refused
@@ -17,7 +18,7 @@ use Rattle.st_model.specs.declared.state.ModelFamily.{ModelFamily}
 use Rattle.st_model.specs.declared.state.ModelState.{ModelState}
 use Rattle.st_model.specs.Answer.{first_or, refused_if, write_refusals}
 use Rattle.st_model.specs.Causes.{is_input_fault, is_stop}
-use Rattle.st_model.specs.Long.{is_long}
+use Rattle.st_model.specs.Long.{is_long, is_read}
 use Rattle.st_model.specs.Reads.{found, get_answer, read_in}
 use Rattle.st_model.specs.Apply.{op_family, write_charge}
 use Rattle.st_model.specs.History.{after_call, is_change}
@@ -32,6 +33,7 @@ use Rattle.log_engine.proofs.Default.{unknown_is}
 use Rattle.log_engine.proofs.Write.{accepted_known}
 use Rattle.log_engine.proofs.Writing.{first_cases}
 use Rattle.ingest_app.specs.Answer.{EngineSteps, answered_call}
+use Rattle.ingest_app.specs.Faults.{IsStopTold}
 use Rattle.ingest_app.specs.Op.{is_served, refused_family, refused_name}
 use Rattle.ingest_app.specs.declared.answer.Answer.{Answer}
 
@@ -53,6 +55,13 @@ first_reply refusals refusal reply is none memory = elim (first_cases refusals r
   | inr (inr (inl fault)) ↦ absurd (true≢false (sym (ap (λ r. is_stop (Refused r)) fault.0) ∙ none))
   | inr (inr (inr first)) ↦ first_refused refusals refusal reply first
 ]
+
+pub none_empty : (refusals : List Refusal) → slice_get refusals 0 ≡ None → refusals ≡ []
+none_empty [] none = refl
+none_empty (refusal ∷ refusals) none = absurd (cc none)
+
+refusal_of : (refusal other : Refusal) → Refused refusal ≡ Refused other → refusal ≡ other
+refusal_of refusal other same = cc same
 
 -- any refusal of a write may be answered
 pub refused_reply : (refusals : List Refusal) (refusal : Refusal) (reply : Reply) → IsFirst refusals refusal → (refusal ≡ OutOfMemory → ⊥) → IsOrStops (Refused refusal) (first_or refusals reply)
@@ -135,7 +144,7 @@ stopped_is o x is none = cc (sym is ∙ none)
 pub accepted_steps : (old new : MarkStore) (was is : Option ℕ) (before after_it : DiskTold) (state : ModelState) (batch : Batch) (place last : ℕ) → StandsForState old state → was ≡ None → is ≡ None
     → slice_get (write_refusals state old.capacity batch.ops) 0 ≡ None → place ≡ state.place + 1 → last ≡ state.last + length batch.ops → StandsForState new (state_written state batch)
     → (IsHonest before → Leaves (λ image. OpensTo state image ⊎ OpensTo (state_written state batch) image) before after_it) → (IsHonest before → (image : Image) → after_it.now image → OpensTo (state_written state batch) image)
-    → EngineSteps old new was is before after_it state (answered_call (Write batch) (record { place = place; reply = Written last }))
+    → EngineSteps old.capacity (StandsForState new) was is before after_it state (answered_call (Write batch) (record { place = place; reply = Written last }))
 accepted_steps old new was is before after_it state batch place last h running still_runs unrefused places lasts stands crash whole = record {
   place = places;
   answered = λ _. inl (ap Written lasts ∙ none_refused (write_refusals state old.capacity batch.ops) (Written (state.last + length batch.ops)) unrefused);
@@ -143,6 +152,9 @@ accepted_steps old new was is before after_it state batch place last h running s
   change = λ _. running;
   still = λ _. (running, refl);
   stopped = λ stops. absurd (true≢false (sym stops ∙ ap is_some still_runs));
+  running = λ _ same. cc same;
+  stop = λ stops. absurd (true≢false (sym stops ∙ ap is_some running));
+  fault = λ same. absurd (cc same);
   unknown = λ _. inr (sym (ap (λ names. slice_get names 0) (accepted_known state h.family old.capacity batch.ops (record { families = h.families }) unrefused)));
   stands = stands;
   crash = λ honest _ image left. ⊎_elim (λ (b : OpensTo state image). inl b) (λ (a : OpensTo (state_written state batch) image). inr (inl a)) (crash honest image left);
@@ -150,17 +162,21 @@ accepted_steps old new was is before after_it state batch place last h running s
 }
 
 -- a refused one
-pub refused_steps : (old new : MarkStore) (was is : Option ℕ) (before after_it : DiskTold) (state : ModelState) (batch : Batch) (place : ℕ) (refusal : Refusal) → StandsForState old state → StandsForState new state → place ≡ new.place → (refusal ≡ OutOfMemory → ⊥)
+pub refused_steps : (old new : MarkStore) (was is : Option ℕ) (before after_it : DiskTold) (state : ModelState) (batch : Batch) (place : ℕ) (refusal : Refusal) → StandsForState old state → StandsForState new state → place ≡ state.place → (refusal ≡ OutOfMemory → ⊥)
     → IsFirst (write_refusals state old.capacity batch.ops) refusal → (is ≡ None → (was ≡ None) × (is_stop (Refused refusal) ≡ false))
+    → (refusal ≡ Stopped → is_some was ≡ true) → (is_some was ≡ true → refusal ≡ Stopped)
     → (IsHonest before → was ≡ None → Leaves (λ image. OpensTo state image ⊎ ((refusal ≡ DiskFault) × OpensTo (state_written state batch) image)) before after_it) → (IsHonest before → is ≡ None → (image : Image) → after_it.now image → OpensTo state image)
-    → EngineSteps old new was is before after_it state (answered_call (Write batch) (record { place = place; reply = Refused refusal }))
-refused_steps old new was is before after_it state batch place refusal h stands places memory first still crash whole = record {
-  place = let e : place ≡ state.place = places ∙ sym stands.place in omega (arith, e);
+    → EngineSteps old.capacity (StandsForState new) was is before after_it state (answered_call (Write batch) (record { place = place; reply = Refused refusal }))
+refused_steps old new was is before after_it state batch place refusal h stands places memory first still stops stopped crash whole = record {
+  place = omega (arith, places);
   answered = λ _. refused_reply (write_refusals state old.capacity batch.ops) refusal (Written (state.last + length batch.ops)) first memory;
   served = ap not (write_unknown state h.family old.capacity batch.ops refusal h.families first memory).1;
   change = λ e. absurd (true≢false (sym e));
   still = still;
   stopped = λ _. refl;
+  running = λ none same. true≢false (sym (stops (refusal_of refusal Stopped same)) ∙ ap is_some none);
+  stop = λ was_stopped. ap Refused (stopped was_stopped);
+  fault = λ same. none_empty (write_refusals state old.capacity batch.ops) (subst (IsFirst (write_refusals state old.capacity batch.ops)) (refusal_of refusal DiskFault same) first);
   unknown = λ _. (write_unknown state h.family old.capacity batch.ops refusal h.families first memory).0;
   stands = stands;
   crash = λ honest running image left. ⊎_elim (λ (b : OpensTo state image). inl b) (λ (a : (refusal ≡ DiskFault) × OpensTo (state_written state batch) image). inr (inr (ap Refused a.0, a.1))) (crash honest running image left);
@@ -170,7 +186,7 @@ refused_steps old new was is before after_it state batch place refusal h stands 
 -- a read
 pub get_steps : (store : MarkStore) (was : Option ℕ) (before : DiskTold) (state : ModelState) (family key : List ℕ) (answer : Answer) → StandsForState store state → answer.place ≡ state.place → answer.reply ≡ get_answer state state.last family key
     → (IsHonest before → was ≡ None → Leaves (OpensTo state) before before) → (IsHonest before → was ≡ None → (image : Image) → before.now image → OpensTo state image)
-    → EngineSteps store store was was before before state (answered_call (Get family key) answer)
+    → EngineSteps store.capacity (StandsForState store) was was before before state (answered_call (Get family key) answer)
 get_steps store was before state family key answer h place is crash whole =
     let call : Call = answered_call (Get family key) answer in
     let names = unknown_is state h.family (family ∷ []) (record { families = h.families }) in
@@ -189,23 +205,54 @@ get_steps store was before state family key answer h place is crash whole =
       change = λ e. absurd (true≢false (sym e ∙ change));
       still = λ none. (none, stop);
       stopped = λ _. change;
+      running = λ none same. true≢false (sym (ap is_stop same) ∙ stop);
+      stop = λ _. tt;
+      fault = λ same. absurd (true≢false (sym (ap is_stop same) ∙ stop));
       unknown = λ _. inr (get_unknown state h.family family key answer.reply h.families is);
       stands = subst (λ (s : ModelState). StandsForState store s) (sym stays) h;
       crash = λ honest running image left. inl (crash honest running image left);
       whole = λ honest running image now. subst (λ (s : ModelState). OpensTo s image) (sym stays) (whole honest running image now);
     }
 
+-- a read isn't refused by a stopped store
+read_stays : (command : Command) (reply : Reply) → is_read command ≡ true → IsStopTold command reply
+read_stays (Write batch) reply reads = absurd (true≢false (sym reads))
+read_stays (Get family key) reply reads = tt
+read_stays (commands.GetAt name family key) reply reads = tt
+read_stays (commands.View views) reply reads = tt
+read_stays (commands.Scan family first last limit) reply reads = tt
+read_stays (commands.ScanAt name family first last limit) reply reads = tt
+read_stays (commands.Snap name) reply reads = tt
+read_stays (commands.Release name) reply reads = tt
+read_stays (commands.MakeFamily name) reply reads = tt
+read_stays (commands.DropFamily name) reply reads = tt
+read_stays (commands.Flush name) reply reads = tt
+read_stays (commands.Compact name) reply reads = tt
+read_stays (commands.Ingest arguments) reply reads = tt
+read_stays (commands.Await client number) reply reads = tt
+
+-- whether a command is a read for which the transcript is too long
+pub cut_reads : (command : Command) (long is : Bool) → is ≡ is_read command && long → is ≡ true → is_read command ≡ true
+cut_reads command long is both yes = go (is_read command) refl (sym both ∙ yes)
+  where
+    go : (b : Bool) → is_read command ≡ b → b && long ≡ true → is_read command ≡ true
+    go true e h = e
+    go false e h = absurd (true≢false (sym h))
+
 -- a read of a transcript that is too long
-pub long_steps : (store : MarkStore) (was : Option ℕ) (before : DiskTold) (state : ModelState) (command : Command) (place : ℕ) → StandsForState store state → place ≡ store.place
+pub long_steps : (store : MarkStore) (was : Option ℕ) (before : DiskTold) (state : ModelState) (command : Command) (place : ℕ) → StandsForState store state → place ≡ state.place → is_read command ≡ true
     → (IsHonest before → was ≡ None → Leaves (OpensTo state) before before) → (IsHonest before → was ≡ None → (image : Image) → before.now image → OpensTo state image)
-    → EngineSteps store store was was before before state (answered_call command (record { place = place; reply = Long }))
-long_steps store was before state command place h is crash whole = record {
-  place = let e : place ≡ state.place = is ∙ sym h.place in omega (arith, e);
+    → EngineSteps store.capacity (StandsForState store) was was before before state (answered_call command (record { place = place; reply = Long }))
+long_steps store was before state command place h is reads crash whole = record {
+  place = omega (arith, is);
   answered = λ tells. absurd (true≢false (sym tells));
   served = refl;
   change = λ e. absurd (true≢false (sym e));
   still = λ none. (none, refl);
   stopped = λ _. refl;
+  running = λ _ same. cc same;
+  stop = λ _. read_stays command Long reads;
+  fault = λ same. absurd (cc same);
   unknown = λ tells. absurd (true≢false (sym tells));
   stands = h;
   crash = λ honest running image left. inl (crash honest running image left);

@@ -16,7 +16,7 @@ use Rattle.build_text.specs.declared.fault.BuildFault.TheVariants.{TooLarge, Not
 use Rattle.build_text.specs.Words.{text_parts}
 use Rattle.build_text.specs.Build.{IsBuildEntry, and_then, at_end, build_of, build_text, entries_from, entry_of_line, is_above, is_within, some_entries, with_build_line, with_found}
 use Rattle.ingest_app.specs.Convert.{EndsBytes, IsBuilt, IsShown, fit_table}
-use Rattle.ingest_app.specs.declared.conversions.Conversion.TheVariants.{Show}
+use Rattle.ingest_app.specs.declared.command_line.Conversion.TheVariants.{Show}
 use Rattle.ingest_app.specs.declared.status.Status.{Status}
 use Rattle.ingest_app.specs.declared.status.Status.TheVariants.{Done, Refused, Memory, InputFault, DiskFault, SinkFault, Script, Damaged, NotYet}
 

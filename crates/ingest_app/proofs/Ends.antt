@@ -1,17 +1,26 @@
--- What the end of a run says, status by status.
-use Rattle.std.proofs.Common.{◌≡◌, ◌⊎◌, ℕ, List, [], Option, Some, None, Ok, Err, IsTrue, IsSomeAnd, refl, inl, inr, ◌∙◌, ap, sym, ◌++◌}
-use Rattle.std.specs.Prelude.{Result}
+-- What the end of a run of a client says, status by status.
+use Rattle.std.proofs.Common.{◌≡◌, ◌⊎◌, inl, inr, ⊎_elim, ℕ, ◌+◌, ◌<◌, ◌≤◌, Bool, true, false, cond, List, [], ◌++◌, length, Option, Some, None, IsTrue, refl, ◌∙◌, ap, sym, subst, arith, true≢false}
+use Rattle.std.specs.Prelude.{Result, Ok, Err, nat_le, replicate}
+use Rattle.std.proofs.lemmas.Bool.Decides.{nat_tests}
+use Rattle.std.proofs.lemmas.List.{length-replicate}
 use Rattle.st_base.specs.Count.{Rose}
 use Rattle.st_device.specs.Disk.{DiskTold, IsHonest}
-use Rattle.log_recover.specs.Opens.{Damage, opens}
+use Rattle.log_recover.specs.Contents.{OpenedContents, disk_contents}
+use Rattle.log_recover.specs.Opens.{Damage}
+use Rattle.st_stream.specs.FileRead.{IsFileWithin, file_read}
 use Rattle.st_stream.specs.Inputs.{InputsTold}
-use Rattle.st_stream.specs.Sink.{SinkTold}
-use Rattle.st_wal.specs.declared.logged.Logged.{Logged}
+use Rattle.st_stream.specs.declared.reading.FileRead.{FileRead}
+use Rattle.st_stream.specs.declared.reading.FileRead.TheVariants.{Missing, TooLong, Whole}
 use Rattle.cmd_text.specs.declared.script.Numbered.{Numbered}
 use Rattle.ingest_app.specs.Client.{client_script}
-use Rattle.ingest_app.specs.Run.{client_of, Ended, EndsNamed, EndsClient, EndsScripts, Faulted, IsOfFile, IsScript, IsFaulty, IsDamaged, one_client, Writes, HasScript, HasFault, HasStore}
+use Rattle.ingest_app.specs.Ended.{IsComplete, RunCause}
+use Rattle.ingest_app.specs.Form.Form.{Run}
+use Rattle.ingest_app.specs.Outside.{EndsWriting, Faulted, IsQuiet, OutsideTold}
+use Rattle.ingest_app.specs.Run.{EndsRead, EndsRun, EndsClient, EndsScripts, HasFault, HasScript, HasStore, IsFaulty, IsOfFile, IsScript, one_client}
 use Rattle.ingest_app.specs.declared.status.Status.{Status}
 use Rattle.ingest_app.specs.declared.status.Status.TheVariants.{Done, Refused, Memory, InputFault, DiskFault, SinkFault, Script, Damaged, NotYet}
+
+-- ---- a client's file
 
 -- a run of a script ends as a run of its file
 pub client_of_script : (file : Option (List ℕ)) (name : List ℕ) (commands : List Numbered) (before after : DiskTold) (status : Status) (text : List ℕ) → client_script file ≡ Ok commands → EndsScripts (one_client name commands) before after status text → EndsClient file name before after status text
@@ -26,142 +35,79 @@ client_of_script file name commands before after Script text read h = absurd h
 client_of_script file name commands before after NotYet text read h = absurd h
 
 -- a run of a client's file ends as a run of the client
-pub named_of_file : (name : List ℕ) (before after : InputsTold) (disk left : DiskTold) (status : Status) (text : List ℕ) → IsOfFile status → (status ≡ DiskFault → Faulted disk left) → (IsTrue before.known → EndsClient (before.file name) name disk left status text) → EndsNamed name before after disk left status text
-named_of_file name before after disk left Done text is fault h = h
-named_of_file name before after disk left DiskFault text is fault h = (fault refl, h)
-named_of_file name before after disk left Damaged text is fault h = h
-named_of_file name before after disk left Script text is fault h = h
-named_of_file name before after disk left Refused text is fault h = absurd is
-named_of_file name before after disk left Memory text is fault h = absurd is
-named_of_file name before after disk left InputFault text is fault h = absurd is
-named_of_file name before after disk left SinkFault text is fault h = absurd is
-named_of_file name before after disk left NotYet text is fault h = absurd is
+pub run_of_file : (name : List ℕ) (before after : InputsTold) (disk left : DiskTold) (status : Status) (text : List ℕ) → IsOfFile status → (status ≡ DiskFault → Faulted disk left) → EndsRead name before disk left status text → EndsRun name before after disk left status text
+run_of_file name before after disk left Done text is fault h = h
+run_of_file name before after disk left DiskFault text is fault h = (fault refl, h)
+run_of_file name before after disk left Damaged text is fault h = h
+run_of_file name before after disk left Script text is fault h = h
+run_of_file name before after disk left Refused text is fault h = absurd is
+run_of_file name before after disk left Memory text is fault h = absurd is
+run_of_file name before after disk left InputFault text is fault h = absurd is
+run_of_file name before after disk left SinkFault text is fault h = absurd is
+run_of_file name before after disk left NotYet text is fault h = absurd is
 
--- of what is there, one fact follows from another
-some_then : {A : Type 0} (P Q : A → Type 0) → ((x : A) → P x → Q x) → (found : Option A) → IsSomeAnd found P → IsSomeAnd found Q
-some_then P Q f None h = h
-some_then P Q f (Some x) h = f x h
+pub le_yes : (a b : ℕ) → a ≤ b → nat_le a b ≡ true
+le_yes a b le = grind (arith, nat_tests)
 
--- or a fact that doesn't depend on it
-pub some_gives : {A Q : Type 0} (P : A → Type 0) → ((x : A) → P x → Q) → (found : Option A) → IsSomeAnd found P → Q
-some_gives P f None h = absurd h
-some_gives P f (Some x) h = f x h
+pub le_no : (a b : ℕ) → b < a → nat_le a b ≡ false
+le_no a b less = grind (arith, nat_tests)
 
-nothing_there : {A : Type 0} (P : A → Type 0) (found : Option A) → found ≡ None → IsSomeAnd found P → ⊥
-nothing_there P None e h = h
-nothing_there P (Some x) e h = cc
+-- what was read is what is read of some file
+file_of : (limit : ℕ) (read : FileRead) → IsFileWithin limit read → (file : Option (List ℕ)) × (read ≡ file_read limit file)
+file_of limit Missing within = (None, refl)
+file_of limit (Whole bytes) within = (Some bytes, sym (ap (λ b. cond b (Whole bytes) TooLong) (le_yes (length bytes) limit within)))
+file_of limit TooLong within =
+    let long : limit < length (replicate (limit + 1) 0) = omega (arith, length-replicate (limit + 1) 0) in
+    (Some (replicate (limit + 1) 0), sym (ap (λ b. cond b (Whole (replicate (limit + 1) 0)) TooLong) (le_no (length (replicate (limit + 1) 0)) limit long)))
 
-module _ (words : List (List ℕ)) (before after : InputsTold) (disk left : DiskTold) (sink_before sink_after : SinkTold) where
-  abbrev pub EndsSo : Status → Type 0
-  EndsSo status = Ended words before after disk left sink_before sink_after status
+-- so a run of what was read is one of a file, which is that of the inputs, where they tell it
+pub read_ends : (limit : ℕ) (name : List ℕ) (inputs : InputsTold) (before after : DiskTold) (status : Status) (text : List ℕ) (read : FileRead) → IsFileWithin limit read → (IsTrue inputs.known → read ≡ file_read limit (inputs.file name))
+    → ((file : Option (List ℕ)) → read ≡ file_read limit file → EndsClient file name before after status text) → EndsRead name inputs before after status text
+read_ends limit name inputs before after status text read within told ends = go inputs.known refl
+  where
+    go : (known : Bool) → inputs.known ≡ known → EndsRead name inputs before after status text
+    go true known = record { file = inputs.file name; theirs = λ _. refl; ends = ends (inputs.file name) (told known) }
+    go false unknown = let found = file_of limit read within in record { file = found.0; theirs = λ known. absurd (true≢false (sym known ∙ unknown)); ends = ends found.0 found.1 }
 
-  pub not_yet_of : (status : Status) → EndsSo status → status ≡ NotYet → client_of words ≡ None
-  not_yet_of NotYet h e = h.1.0
-  not_yet_of Done h e = cc
-  not_yet_of Memory h e = cc
-  not_yet_of InputFault h e = cc
-  not_yet_of DiskFault h e = cc
-  not_yet_of SinkFault h e = cc
-  not_yet_of Script h e = cc
-  not_yet_of Damaged h e = cc
-  not_yet_of Refused h e = cc
+-- ---- the cause of a status
 
-  pub input_fault_of : (status : Status) → EndsSo status → status ≡ InputFault → Rose before.faults after.faults
-  input_fault_of InputFault h e = some_gives (λ name. EndsNamed name before after disk left InputFault h.0) (λ name ends. ends.0) (client_of words) h.1
-  input_fault_of Done h e = cc
-  input_fault_of Memory h e = cc
-  input_fault_of NotYet h e = cc
-  input_fault_of DiskFault h e = cc
-  input_fault_of SinkFault h e = cc
-  input_fault_of Script h e = cc
-  input_fault_of Damaged h e = cc
-  input_fault_of Refused h e = cc
-
-  pub disk_fault_of : (status : Status) → EndsSo status → status ≡ DiskFault → Faulted disk left
-  disk_fault_of DiskFault h e = some_gives (λ name. EndsNamed name before after disk left DiskFault h.0) (λ name ends. ends.0) (client_of words) h.1
-  disk_fault_of Done h e = cc
-  disk_fault_of Memory h e = cc
-  disk_fault_of NotYet h e = cc
-  disk_fault_of InputFault h e = cc
-  disk_fault_of SinkFault h e = cc
-  disk_fault_of Script h e = cc
-  disk_fault_of Damaged h e = cc
-  disk_fault_of Refused h e = cc
-
-  pub sink_fault_of : (status : Status) → EndsSo status → status ≡ SinkFault → Rose sink_before.faults sink_after.faults
-  sink_fault_of SinkFault h e = h.0
-  sink_fault_of Done h e = cc
-  sink_fault_of Memory h e = cc
-  sink_fault_of NotYet h e = cc
-  sink_fault_of InputFault h e = cc
-  sink_fault_of DiskFault h e = cc
-  sink_fault_of Script h e = cc
-  sink_fault_of Damaged h e = cc
-  sink_fault_of Refused h e = cc
-
-  pub memory_of : (status : Status) → EndsSo status → status ≡ Memory → Writes sink_before sink_after []
-  memory_of Memory h e = λ known. h.2 known ∙ ap (λ text. sink_before.written ++ text) h.1
-  memory_of Done h e = cc
-  memory_of SinkFault h e = cc
-  memory_of NotYet h e = cc
-  memory_of InputFault h e = cc
-  memory_of DiskFault h e = cc
-  memory_of Script h e = cc
-  memory_of Damaged h e = cc
-  memory_of Refused h e = cc
-
-  pub script_of_status : (status : Status) → EndsSo status → status ≡ Script → IsTrue before.known → HasFault words before
-  script_of_status Script h e known =
-      some_then (λ name. EndsNamed name before after disk left Script h.0) (λ name. (line : ℕ) × (client_script (before.file name) ≡ Err line)) (λ name ends. let f : IsFaulty (before.file name) name h.0 = ends known in (f.line, f.read)) (client_of words) h.1
-  script_of_status Done h e known = cc
-  script_of_status SinkFault h e known = cc
-  script_of_status NotYet h e known = cc
-  script_of_status InputFault h e known = cc
-  script_of_status DiskFault h e known = cc
-  script_of_status Memory h e known = cc
-  script_of_status Damaged h e known = cc
-  script_of_status Refused h e known = cc
-
-  pub damaged_of : (status : Status) → EndsSo status → status ≡ Damaged → IsTrue before.known → IsHonest disk → IsDamaged disk
-  damaged_of Damaged h e known honest =
-      some_gives (λ name. EndsNamed name before after disk left Damaged h.0) (λ name ends. let d : IsScript (before.file name) name disk left Damaged h.0 = ends known in (d.ends.damage, d.ends.found honest)) (client_of words) h.1
-  damaged_of Done h e known honest = cc
-  damaged_of SinkFault h e known honest = cc
-  damaged_of NotYet h e known honest = cc
-  damaged_of InputFault h e known honest = cc
-  damaged_of DiskFault h e known honest = cc
-  damaged_of Memory h e known honest = cc
-  damaged_of Script h e known honest = cc
-  damaged_of Refused h e known honest = cc
-
-  pub done_of : (status : Status) → EndsSo status → status ≡ Done → IsTrue before.known → HasScript words before
-  done_of Done h e known =
-      some_then (λ name. EndsNamed name before after disk left Done h.0) (λ name. (commands : List Numbered) × (client_script (before.file name) ≡ Ok commands)) (λ name ends. let a : IsScript (before.file name) name disk left Done h.0 = ends known in (a.commands, a.read)) (client_of words) h.1
-  done_of Script h e known = cc
-  done_of SinkFault h e known = cc
-  done_of NotYet h e known = cc
-  done_of InputFault h e known = cc
-  done_of DiskFault h e known = cc
-  done_of Memory h e known = cc
-  done_of Damaged h e known = cc
-  done_of Refused h e known = cc
+module _ (name : List ℕ) (before after : OutsideTold) where
+  pub run_cause : (status : Status) → EndsWriting (EndsRun name before.inputs after.inputs before.disk after.disk) before.sink after.sink status → (status ≡ Done → IsQuiet before after) → RunCause name before after status
+  run_cause Done h quiet =
+      let read : EndsRead name before.inputs before.disk after.disk Done h.0 = h.1 in
+      let script : IsScript read.file name before.disk after.disk Done h.0 = read.ends in
+      (λ known. (script.commands, ap client_script (sym (read.theirs known)) ∙ script.read), quiet refl)
+  run_cause Refused h quiet = absurd h.1
+  run_cause Memory h quiet = λ known. h.2 known ∙ ap (λ text. before.sink.written ++ text) h.1
+  run_cause InputFault h quiet = h.1.0
+  run_cause DiskFault h quiet = h.1.0
+  run_cause SinkFault h quiet = h.0
+  run_cause Script h quiet =
+      let read : EndsRead name before.inputs before.disk after.disk Script h.0 = h.1 in
+      let faulty : IsFaulty read.file name h.0 = read.ends in
+      λ known. (faulty.line, ap client_script (sym (read.theirs known)) ∙ faulty.read)
+  run_cause Damaged h quiet =
+      let read : EndsRead name before.inputs before.disk after.disk Damaged h.0 = h.1 in
+      let script : IsScript read.file name before.disk after.disk Damaged h.0 = read.ends in
+      λ honest. (script.ends.damage, script.ends.found honest)
+  run_cause NotYet h quiet = absurd h.1
 
   -- a file isn't both a script and faulty
-  both_kinds : (found : Option (List ℕ)) → IsSomeAnd found (λ name. (commands : List Numbered) × (client_script (before.file name) ≡ Ok commands)) → IsSomeAnd found (λ name. (line : ℕ) × (client_script (before.file name) ≡ Err line)) → ⊥
-  both_kinds None h k = h
-  both_kinds (Some name) h k = let e = h.1 in let f = k.1 in cc
+  both_kinds : HasScript name before.inputs → HasFault name before.inputs → ⊥
+  both_kinds script faulty = cc (sym script.1 ∙ faulty.1)
 
   -- nor a disk both a store and damaged
-  both_stores : (found : Result (List Logged) Damage) (ops : List Logged) (damage : Damage) → found ≡ Ok ops → found ≡ Err damage → ⊥
-  both_stores found ops damage ok err = cc (sym ok ∙ err)
+  both_stores : (found : Result OpenedContents Damage) (from : OpenedContents) (damage : Damage) → found ≡ Ok from → found ≡ Err damage → ⊥
+  both_stores found from damage ok err = cc (sym ok ∙ err)
 
-  pub complete_of : (status : Status) → EndsSo status → IsTrue before.known → HasScript words before → HasStore disk → ¬ Rose before.faults after.faults → ¬ Faulted disk left → ¬ Rose sink_before.faults sink_after.faults → (status ≡ Done) ⊎ (status ≡ Memory)
-  complete_of Done h known has store no_input no_disk no_sink = inl refl
-  complete_of Memory h known has store no_input no_disk no_sink = inr refl
-  complete_of InputFault h known has store no_input no_disk no_sink = absurd (no_input (input_fault_of InputFault h refl))
-  complete_of DiskFault h known has store no_input no_disk no_sink = absurd (no_disk (disk_fault_of DiskFault h refl))
-  complete_of SinkFault h known has store no_input no_disk no_sink = absurd (no_sink h.0)
-  complete_of Script h known has store no_input no_disk no_sink = absurd (both_kinds (client_of words) has (script_of_status Script h refl known))
-  complete_of Damaged h known has store no_input no_disk no_sink = let d = damaged_of Damaged h refl known store.0 in absurd (both_stores (opens disk.reads) store.1.0 d.0 store.1.1 d.1)
-  complete_of NotYet h known has store no_input no_disk no_sink = absurd (nothing_there (λ name. (commands : List Numbered) × (client_script (before.file name) ≡ Ok commands)) (client_of words) h.1.0 has)
-  complete_of Refused h known has store no_input no_disk no_sink = absurd (some_gives (λ name. EndsNamed name before after disk left Refused h.0) (λ name ends. ends) (client_of words) h.1)
+  pub run_complete : (status : Status) → RunCause name before after status → IsComplete (Run name) before after status
+  run_complete Done cause = λ known script store no_input no_disk no_sink. inl refl
+  run_complete Memory cause = λ known script store no_input no_disk no_sink. inr refl
+  run_complete Refused cause = absurd cause
+  run_complete InputFault cause = λ known script store no_input no_disk no_sink. absurd (no_input cause)
+  run_complete DiskFault cause = λ known script store no_input no_disk no_sink. absurd (no_disk cause)
+  run_complete SinkFault cause = λ known script store no_input no_disk no_sink. absurd (no_sink cause)
+  run_complete Script cause = λ known script store no_input no_disk no_sink. absurd (both_kinds script (cause known))
+  run_complete Damaged cause = λ known script store no_input no_disk no_sink.
+      let damaged = cause store.0 in absurd (both_stores (disk_contents false before.disk.reads) store.1.0 damaged.0 store.1.1 damaged.1)
+  run_complete NotYet cause = absurd cause

@@ -6,6 +6,7 @@ pub mod Opening
 pub mod Printed
 pub mod Outcomes
 pub mod Converting
+pub mod Causes
 pub mod Built
 pub mod Lines
 pub mod Shown

@@ -20,8 +20,9 @@ use Rattle.build_text.specs.declared.fault.BuildFault.TheVariants as build
 use Rattle.build_text.specs.Words.{text_parts}
 use Rattle.build_text.specs.Build.{GivesEntries, GivesMore, build_of, entries_from, is_above, is_within, some_entries, unnumbered, with_line_entry}
 use Rattle.build_text.proofs.Building.{build_begin, entry_added, entry_not_fitting, entry_not_rising, some_stay}
-use Rattle.ingest_app.specs.Convert.{EndsBytes, GivesTable, build_cause, fault_at, fit_table, refused_text, unfinished}
-use Rattle.ingest_app.specs.declared.conversions.Conversion.TheVariants.{Build}
+use Rattle.ingest_app.specs.Convert.{EndsBytes, GivesTable, build_cause, fault_at, fit_table, unfinished}
+use Rattle.ingest_app.specs.Texts.{refused_text}
+use Rattle.ingest_app.specs.declared.command_line.Conversion.TheVariants.{Build}
 use Rattle.ingest_app.specs.declared.status.Status.{Status}
 use Rattle.ingest_app.specs.declared.status.Status.TheVariants.{Refused}
 

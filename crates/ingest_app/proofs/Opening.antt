@@ -2,10 +2,10 @@
 use Rattle.std.proofs.Common.{◌||◌, true≢false, ◌≡◌, ◌⊎◌, inl, inr, ⊎_elim, ℕ, Bool, true, false, List, Ok, sym, ◌∙◌, subst}
 use Rattle.st_device.specs.Disk.{DiskTold, IsHonest, Leaves, Passes}
 use Rattle.st_model.specs.declared.state.ModelState.{ModelState}
-use Rattle.log_recover.specs.Opens.{IsDamageOf, opens}
+use Rattle.log_recover.specs.Contents.{OpenedContents, SameContents, disk_contents}
+use Rattle.log_recover.specs.Opens.{IsDamageOf}
 use Rattle.log_recover.specs.declared.fault.OpenFault.{OpenFault}
 use Rattle.log_recover.specs.declared.fault.OpenFault.TheVariants.{Damaged as DamagedFault, DiskFault as DiskFailed, OutOfMemory}
-use Rattle.st_wal.specs.declared.logged.Logged.{Logged}
 use Rattle.ingest_app.specs.Client.{ClientScript, EndsAnswered, AreClientsAnswered, IsRun, answered_status, opening_of}
 use Rattle.ingest_app.specs.Run.{EndsOpening, EndsScripts, StaysAsRead}
 use Rattle.ingest_app.specs.declared.status.Status.{Status}
@@ -33,6 +33,7 @@ module _ (clients : List ClientScript) (text : List ℕ) (opening : ModelState) 
         cut = legal.cut;
         causes = record { inputs = legal.causes.inputs; disk = λ none. absurd (true≢false none); stopped = legal.causes.stopped };
       };
+      faults = a.answers.faults;
       printed = a.answers.printed;
     };
     moments = a.moments;
@@ -52,33 +53,35 @@ module _ (clients : List ClientScript) (text : List ℕ) (opening : ModelState) 
 
 -- ---- the run
 
-module _ (clients : List ClientScript) (text : List ℕ) (before mid after : DiskTold) (ops : List Logged) (p : Passes before mid) (q : Passes mid after) (read : IsHonest before → opens before.reads ≡ Ok ops)
-    (stays : IsHonest before → Leaves (λ image. before.now image ⊎ (opens image ≡ opens before.reads)) before mid) where
-  is_run : (failed : Bool) → AreClientsAnswered clients text (opening_of ops) mid after failed → IsRun clients text before after failed
+module _ (clients : List ClientScript) (text : List ℕ) (before mid after : DiskTold) (from : OpenedContents) (p : Passes before mid) (q : Passes mid after) (read : IsHonest before → disk_contents false before.reads ≡ Ok from)
+    (stays : IsHonest before → Leaves (λ image. before.now image ⊎ SameContents image before.reads) before mid) where
+  is_run : (failed : Bool) → AreClientsAnswered clients text (opening_of from) mid after failed → IsRun clients text before after failed
   is_run failed a = record {
-    ops = ops;
-    read = read;
+    from = from;
     transcripts = a.transcripts;
     answers = a.answers;
-    opened = mid.moment;
-    moments = a.moments;
-    later = p.later;
-    each_change = a.each_change;
-    in_turn = a.in_turn;
-    crash = λ honest image left. ⊎_elim
-        (λ (w : mid.since before.moment image). ⊎_elim
-        (λ (now : before.now image). inl now)
-        (λ (is : opens image ≡ opens before.reads). inr (inl (is ∙ read honest)))
-        (stays honest image w))
-        (λ (w : after.since mid.moment image). inr (inr w))
-        (q.was before.moment image p.later left);
-    since = λ honest. a.crash (p.honest_on honest);
-    kept = λ honest. a.kept (p.honest_on honest);
-    end = λ honest. a.end (p.honest_on honest);
-    whole = λ none honest image now. a.whole none (p.honest_on honest) image now;
+    images = λ honest. record {
+      read = read honest;
+      opened = mid.moment;
+      moments = a.moments;
+      later = p.later;
+      each_change = a.each_change;
+      in_turn = a.in_turn;
+      crash = λ image left. ⊎_elim
+          (λ (w : mid.since before.moment image). ⊎_elim
+          (λ (now : before.now image). inl now)
+          (λ (same : SameContents image before.reads). inr (inl (same false ∙ read honest)))
+          (stays honest image w))
+          (λ (w : after.since mid.moment image). inr (inr w))
+          (q.was before.moment image p.later left);
+      since = a.crash (p.honest_on honest);
+      kept = a.kept (p.honest_on honest);
+      end = a.end (p.honest_on honest);
+      whole = λ none image now. a.whole none (p.honest_on honest) image now;
+    };
   }
 
-  pub answered_ends : (status : Status) → EndsAnswered clients (opening_of ops) mid after status text → EndsScripts clients before after status text
+  pub answered_ends : (status : Status) → EndsAnswered clients (opening_of from) mid after status text → EndsScripts clients before after status text
   answered_ends Done h = is_run false h
   answered_ends DiskFault h = inl (is_run true h)
   answered_ends Refused h = absurd h
@@ -91,7 +94,7 @@ module _ (clients : List ClientScript) (text : List ℕ) (before mid after : Dis
 
 -- ---- an opening that failed
 
-pub opening_ends : (clients : List ClientScript) (before after : DiskTold) (fault : OpenFault) (status : Status) (text : List ℕ) → (IsHonest before → IsDamageOf (opens before.reads) fault) → StaysAsRead before after → EndsOpening fault status text
+pub opening_ends : (clients : List ClientScript) (before after : DiskTold) (fault : OpenFault) (status : Status) (text : List ℕ) → (IsHonest before → IsDamageOf (disk_contents false before.reads) fault) → StaysAsRead before after → EndsOpening fault status text
     → EndsScripts clients before after status text
 opening_ends clients before after (DamagedFault file at) status text damage stays h =
     subst (λ (s : Status). EndsScripts clients before after s text) (sym h.0) (record { damage = record { file = file; at = at }; found = damage; printed = h.1; stays = stays })

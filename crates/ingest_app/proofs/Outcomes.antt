@@ -2,7 +2,7 @@
 use Rattle.std.proofs.Common.{◌≡◌, inl, inr, ℕ, List, [], refl, sym, subst, append-nil}
 use Rattle.std.specs.Prelude.{IfOk, IsErr, IsOkAnd, Result, Ok, Err}
 use Rattle.st_stream.specs.Sink.{SinkTold}
-use Rattle.ingest_app.specs.Run.{EndsWriting, Writes, WritesOutcome}
+use Rattle.ingest_app.specs.Outside.{EndsWriting, Writes, WritesOutcome}
 use Rattle.ingest_app.specs.declared.outcome.Outcome.{Outcome}
 use Rattle.ingest_app.specs.declared.status.Status.{Status}
 use Rattle.ingest_app.specs.declared.status.Status.TheVariants.{Done, Refused, Memory, InputFault, DiskFault, SinkFault, Script, Damaged, NotYet}
@@ -24,6 +24,18 @@ module _ (ends : Status → List ℕ → Type 0) (before after : SinkTold) (no_s
   pub written_of : (wanted : Status) (text : List ℕ) (status : Status) → ends wanted text → WritesOutcome wanted text before after status → EndsWriting ends before after status
   written_of wanted text status h (inl w) = subst (EndsWriting ends before after) (sym w.0) (took wanted text h w.1)
   written_of wanted text status h (inr w) = subst (EndsWriting ends before after) (sym w.0) (w.1, (wanted, text, h, w.2))
+
+-- the same end in other words
+pub ends_as : (ends others : Status → List ℕ → Type 0) → ((status : Status) (text : List ℕ) → ends status text → others status text) → (before after : SinkTold) (status : Status) → EndsWriting ends before after status → EndsWriting others before after status
+ends_as ends others goes before after Done h = (h.0, goes Done h.0 h.1, h.2)
+ends_as ends others goes before after Refused h = (h.0, goes Refused h.0 h.1, h.2)
+ends_as ends others goes before after Memory h = (h.0, goes Memory h.0 h.1, h.2)
+ends_as ends others goes before after InputFault h = (h.0, goes InputFault h.0 h.1, h.2)
+ends_as ends others goes before after DiskFault h = (h.0, goes DiskFault h.0 h.1, h.2)
+ends_as ends others goes before after Script h = (h.0, goes Script h.0 h.1, h.2)
+ends_as ends others goes before after Damaged h = (h.0, goes Damaged h.0 h.1, h.2)
+ends_as ends others goes before after NotYet h = (h.0, goes NotYet h.0 h.1, h.2)
+ends_as ends others goes before after SinkFault h = (h.0, (h.1.0, h.1.1, goes h.1.0 h.1.1 h.1.2, h.1.3))
 
 -- want of memory leaves the sink as it was
 pub unwritten : (ends : Status → List ℕ → Type 0) (sink : SinkTold) → ends Memory [] → EndsWriting ends sink sink Memory

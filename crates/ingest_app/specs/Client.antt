@@ -12,16 +12,16 @@ use Rattle.st_model.specs.declared.command.FileSeen.{FileSeen}
 use Rattle.st_model.specs.declared.reply.Reply.{Reply}
 use Rattle.st_model.specs.declared.state.ModelState.{ModelState}
 use Rattle.st_model.specs.Calls.{AreCallsOf}
+use Rattle.st_model.specs.History.{all_calls}
 use Rattle.st_model.specs.Contents.{opened}
 use Rattle.st_model.specs.Legal.{IsLegal}
 use Rattle.st_model.specs.Line.{line_of}
 use Rattle.st_model.specs.Places.{changes_in}
 use Rattle.log_engine.specs.Engine.{OpensTo}
-use Rattle.log_recover.specs.Contents.{contents_of, known_of}
-use Rattle.log_recover.specs.Opens.{opens}
-use Rattle.st_wal.specs.declared.logged.Logged.{Logged}
+use Rattle.log_recover.specs.Contents.{OpenedContents, disk_contents}
 use Rattle.ingest_app.specs.Answer.{IsStrangerTold}
 use Rattle.ingest_app.specs.Crash.{AreKept, AreMoments, IsOfRun, state_now}
+use Rattle.ingest_app.specs.Faults.{AreStopped, IsFaultTold}
 use Rattle.ingest_app.specs.declared.status.Status.{Status}
 use Rattle.ingest_app.specs.declared.status.Status.TheVariants.{Done, DiskFault}
 
@@ -60,6 +60,7 @@ pub record AnswersClient (client : ClientScript) (calls : List Call) : Type 0 wh
   pub answers : List (ℕ × Reply)
   pub are : AreCallsOf (commands_alone client.commands) seen answers calls
   pub unknown : Each IsStrangerTold calls
+  pub stop : AreStopped calls
 
 -- The text is the transcripts of the clients, whose calls are one legal run from this state on. The inputs haven't failed;
 -- the disk has, or not.
@@ -67,6 +68,7 @@ pub record AreTranscriptsOf (clients : List ClientScript) (text : List ℕ) (ope
     (transcripts : List (List Call)) : Type 0 where
   pub answered : AllZip AnswersClient clients transcripts
   pub legal : IsLegal opening CAPACITY transcripts 0 failed
+  pub faults : Each (IsFaultTold opening transcripts) (all_calls transcripts)
   pub printed : text ≡ transcripts_text clients transcripts
 
 -- ---- a run
@@ -98,16 +100,15 @@ EndsAnswered clients opening before after Done text = AreClientsAnswered clients
 EndsAnswered clients opening before after DiskFault text = AreClientsAnswered clients text opening before after true
 EndsAnswered clients opening before after other text = ⊥
 
--- the state that an opening makes of a store with these operations
-abbrev pub opening_of : List Logged → ModelState
-opening_of ops = opened (contents_of false ops) (known_of ops)
+-- the state that an opening makes of these contents
+abbrev pub opening_of : OpenedContents → ModelState
+opening_of from = opened from.contents from.known
 
--- The clients were answered over the store of the disk, from the contents that it read at first.
-pub record IsRun (clients : List ClientScript) (text : List ℕ) (before after : DiskTold) (failed : Bool) : Type 0 where
-  pub ops : List Logged
-  pub read : IsHonest before → opens before.reads ≡ Ok ops
-  pub transcripts : List (List Call)
-  pub answers : AreTranscriptsOf clients text (opening_of ops) failed transcripts
+-- What the disk read before a run of these transcripts, and what a crash leaves within the run and at its end.
+pub record AreImagesOf (from : OpenedContents) (transcripts : List (List Call)) (before after : DiskTold)
+    (failed : Bool) : Type 0 where
+  -- a store whose flag isn't set
+  pub read : disk_contents false before.reads ≡ Ok from
   -- the moment at which the store was opened, and one for each change
   pub opened : ℕ
   pub moments : List ℕ
@@ -116,15 +117,20 @@ pub record IsRun (clients : List ClientScript) (text : List ℕ) (before after :
   pub in_turn : AreMoments opened after.moment moments
   -- each image of a crash within the run is one that a crash before it could leave, or has what was read, or is one of a
   -- crash since the opening
-  pub crash : IsHonest before → (image : Image) → after.since before.moment image
-      → before.now image ⊎ (opens image ≡ Ok ops) ⊎ after.since opened image
+  pub crash : (image : Image) → after.since before.moment image
+      → before.now image ⊎ (disk_contents false image ≡ Ok from) ⊎ after.since opened image
   -- each of a crash since the opening opens to the contents after the first changes, or to those with the change that was
   -- cut off; since the moment of a change it has this change too
-  pub since : IsHonest before → (image : Image) → after.since opened image
-      → IsOfRun (opening_of ops) transcripts 0 image
-  pub kept : IsHonest before → AreKept (opening_of ops) transcripts after 0 moments
+  pub since : (image : Image) → after.since opened image → IsOfRun (opening_of from) transcripts 0 image
+  pub kept : AreKept (opening_of from) transcripts after 0 moments
   -- at the end each has all changes; without a fault it opens to the contents after them
-  pub end : IsHonest before → (image : Image) → after.now image
-      → IsOfRun (opening_of ops) transcripts (changes_in transcripts) image
-  pub whole : failed ≡ false → IsHonest before → (image : Image) → after.now image
-      → OpensTo (state_now (opening_of ops) transcripts) image
+  pub end : (image : Image) → after.now image → IsOfRun (opening_of from) transcripts (changes_in transcripts) image
+  pub whole : failed ≡ false → (image : Image) → after.now image
+      → OpensTo (state_now (opening_of from) transcripts) image
+
+-- The clients were answered over the store of the disk, from the contents that it read at first, where it is honest.
+pub record IsRun (clients : List ClientScript) (text : List ℕ) (before after : DiskTold) (failed : Bool) : Type 0 where
+  pub from : OpenedContents
+  pub transcripts : List (List Call)
+  pub answers : AreTranscriptsOf clients text (opening_of from) failed transcripts
+  pub images : IsHonest before → AreImagesOf from transcripts before after failed

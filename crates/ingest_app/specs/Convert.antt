@@ -1,8 +1,7 @@
 -- How a conversion of the source ends, and what it has written then.
-use Rattle.std.specs.Prelude.{ℕ, ◌≡◌, ◌<◌, ◌≤◌, Bool, nat_le, IsTrue, List, [], ◌∷◌, ◌++◌, length, codes, if◌then◌else◌}
-use Rattle.std.specs.Prelude.{◌⊎◌, Option, Some, None, Result, Ok, Err}
+use Rattle.std.specs.Prelude.{ℕ, ◌≡◌, ◌<◌, ◌≤◌, Bool, nat_le, IsTrue, List, [], ◌∷◌, ◌++◌, length, codes}
+use Rattle.std.specs.Prelude.{◌⊎◌, Some, Result, Ok, Err}
 use Rattle.std.specs.Fmt.{decimal}
-use Rattle.st_base.specs.Bytes.{same}
 use Rattle.st_base.specs.Count.{Rose}
 use Rattle.st_base.specs.declared.limits.TheConstants.{SOURCE_BYTES}
 use Rattle.st_base.specs.Faults.{printed_table_fault}
@@ -22,24 +21,12 @@ use Rattle.sst_writer.specs.declared.fault.WriterFault.TheVariants as writer
 use Rattle.build_text.specs.Build.{build_of, build_text}
 use Rattle.build_text.specs.declared.fault.BuildFault.{BuildFault}
 use Rattle.build_text.specs.declared.fault.BuildFault.TheVariants as build
-use Rattle.ingest_app.specs.Run.{EndsWriting, not_yet_text}
-use Rattle.ingest_app.specs.declared.conversions.Conversion.{Conversion}
-use Rattle.ingest_app.specs.declared.conversions.Conversion.TheVariants.{Build, Show}
+use Rattle.ingest_app.specs.Outside.{Writes}
+use Rattle.ingest_app.specs.Texts.{refused_text, source_text}
+use Rattle.ingest_app.specs.declared.command_line.Conversion.{Conversion}
+use Rattle.ingest_app.specs.declared.command_line.Conversion.TheVariants.{Build, Show}
 use Rattle.ingest_app.specs.declared.status.Status.{Status}
-use Rattle.ingest_app.specs.declared.status.Status.TheVariants.{Done, Refused, Memory, InputFault, NotYet}
-
--- the conversion that the words ask for: `build` or `show`
-abbrev pub conversion_of : List (List ℕ) → Option Conversion
-conversion_of (form ∷ []) = if same form (codes "build") then Some Build else (if same form (codes "show") then Some Show else None)
-conversion_of other = None
-
--- ---- the texts
-
-abbrev pub source_text : List ℕ
-source_text = codes "input" ++ 10 ∷ []
-
-abbrev pub refused_text : List ℕ → List ℕ
-refused_text cause = codes "refused " ++ cause ++ 10 ∷ []
+use Rattle.ingest_app.specs.declared.status.Status.TheVariants.{Done, Refused, Memory, InputFault, SinkFault}
 
 -- the number of a line and what is wrong with it
 abbrev pub line_cause : ℕ → List ℕ → List ℕ
@@ -120,23 +107,20 @@ IsOfBytes Done = Unit {0}
 IsOfBytes Refused = Unit {0}
 IsOfBytes other = ⊥
 
--- The conversion of the source may end so. Where the source doesn't tell its bytes, nothing is said of them.
+-- There are bytes, which are those of the source, where it tells them, and their conversion may end with this status, if the
+-- sink takes this text.
+pub record EndsConverted (form : Conversion) (source : SourceTold) (status : Status) (text : List ℕ) : Type 0 where
+  pub bytes : List ℕ
+  pub theirs : IsTrue source.known → bytes ≡ source.left
+  pub ends : EndsBytes form bytes status text
+
+-- The conversion of the source may end with this status, if the sink takes this text.
 abbrev pub EndsSource : Conversion → SourceTold → SourceTold → Status → List ℕ → Type 0
-EndsSource form before after Done text = IsTrue before.known → EndsBytes form before.left Done text
-EndsSource form before after Refused text = IsTrue before.known → EndsBytes form before.left Refused text
+EndsSource form before after Done text = EndsConverted form before Done text
+EndsSource form before after Refused text = EndsConverted form before Refused text
 EndsSource form before after InputFault text = Rose before.faults after.faults × (text ≡ source_text)
 EndsSource form before after Memory text = text ≡ []
 EndsSource form before after other text = ⊥
-
--- the conversion ended with this status and wrote the text of it; or the sink failed while it took the text of some status
-abbrev pub Converted : Conversion → SourceTold → SourceTold → SinkTold → SinkTold → Status → Type 0
-Converted form before after sink_before sink_after status = EndsWriting (EndsSource form before after) sink_before sink_after status
-
--- what words that ask for no conversion are answered
-abbrev pub EndsNoForm : Status → List ℕ → Type 0
-EndsNoForm NotYet text = text ≡ not_yet_text
-EndsNoForm Memory text = text ≡ []
-EndsNoForm other text = ⊥
 
 -- ---- which bytes are converted, and which are refused
 
@@ -147,3 +131,15 @@ IsConvertible form bytes = (text : List ℕ) × EndsBytes form bytes Done text
 -- no such text or table, or too long
 abbrev pub IsUnconvertible : Conversion → List ℕ → Type 0
 IsUnconvertible form bytes = (text : List ℕ) × EndsBytes form bytes Refused text
+
+-- What holds where a conversion ends with this status.
+abbrev pub ConversionCause : Conversion → SourceTold → SourceTold → SinkTold → SinkTold → Status → Type 0
+ConversionCause form before after sink_before sink_after Done =
+    (IsTrue before.known → IsConvertible form before.left)
+    × (after.faults ≡ before.faults) × (sink_after.faults ≡ sink_before.faults)
+ConversionCause form before after sink_before sink_after Refused =
+    IsTrue before.known → IsUnconvertible form before.left
+ConversionCause form before after sink_before sink_after Memory = Writes sink_before sink_after []
+ConversionCause form before after sink_before sink_after InputFault = Rose before.faults after.faults
+ConversionCause form before after sink_before sink_after SinkFault = Rose sink_before.faults sink_after.faults
+ConversionCause form before after sink_before sink_after other = ⊥

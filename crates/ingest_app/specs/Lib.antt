@@ -1,7 +1,13 @@
-pub mod Client
+pub mod Form
+pub mod Texts
+pub mod Outside
 pub mod Crash
 pub mod Op
+pub mod Faults
 pub mod Answer
+pub mod Client
 pub mod Run
-pub mod Status
 pub mod Convert
+pub mod Ended
+pub mod Memory
+pub mod Status

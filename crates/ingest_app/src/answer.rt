@@ -1,15 +1,14 @@
 //! The commands, answered by the engine one by one.
 ghost use Rattle.std.specs.Prelude.{◌≡◌, ◌⊎◌, ◌&&◌, IfOk, OnOk, None, false, nat_le};
 ghost use Rattle.st_base.specs.Count.{Rose};
-ghost use Rattle.st_device.specs.Disk.{IsHonest, Passes};
-ghost use Rattle.log_engine.specs.Engine.{IsTied};
+ghost use Rattle.st_device.specs.Disk.{Passes};
+ghost use Rattle.log_engine.specs.Engine.{IsReadyOn, SameOptions, Stands};
 ghost use Rattle.log_engine.specs.Op.{IsWrite};
-ghost use Rattle.log_engine.specs.MarkStore.{StandsForState};
 ghost use Rattle.st_model.specs.declared.state.ModelState.{ModelState};
 ghost use Rattle.st_model.specs.Reads.{get_answer};
 ghost use Rattle.st_model.specs.Long.{IsCut, is_long, is_read};
 ghost use Rattle.st_model.specs.State.{long_transcript};
-ghost use Rattle.ingest_app.specs.Answer.{EngineSteps, answered_call};
+ghost use Rattle.ingest_app.specs.Answer.{EngineAnswers, answered_call};
 ghost use Rattle.ingest_app.specs.Op.{IsServed};
 
 use log_engine::Engine;
@@ -38,19 +37,14 @@ fn shown(refusal: Refusal) -> Result<Refusal, AllocError>
 
 fn answer_write<D: Disk>(engine: &mut Engine<D>, batch: &Batch) -> Result<Answer, AllocError>
     requires limits { IsWrite batch.now.ops }
-    requires tied { IsHonest (D.tells engine.old.disk) → engine.old.stopped ≡ None
-        → IsTied engine.old.wal engine.old.store (D.tells engine.old.disk) }
-    ensures steps { IfOk result (λ answer. (state : ModelState) → StandsForState engine.old.store state
-        → EngineSteps engine.old.store engine.new.store engine.old.stopped engine.new.stopped (D.tells engine.old.disk)
-        (D.tells engine.new.disk) state (answered_call (Command.Write batch.now) answer)) }
+    requires ready { IsReadyOn engine.old (D.tells engine.old.disk) }
+    ensures steps { IfOk result (EngineAnswers D.tells engine.old engine.new (Command.Write batch.now)) }
     ensures short { IfOk result (λ answer. is_long answer.reply ≡ false) }
-    ensures tied { IsHonest (D.tells engine.old.disk) → engine.new.stopped ≡ None
-        → IsTied engine.new.wal engine.new.store (D.tells engine.new.disk) }
+    ensures ready { IsReadyOn engine.new (D.tells engine.new.disk) }
     ensures untouched { (engine.old.stopped ≡ None) ⊎ (engine.new.disk ≡ engine.old.disk) }
     ensures cause { (engine.new.stopped ≡ engine.old.stopped)
         ⊎ Rose (D.tells engine.old.disk).faults (D.tells engine.new.disk).faults }
-    ensures options { (engine.new.store.behind ≡ engine.old.store.behind)
-        × (engine.new.store.capacity ≡ engine.old.store.capacity) }
+    ensures options { SameOptions engine.old engine.new }
     ensures passes { Passes (D.tells engine.old.disk) (D.tells engine.new.disk) }
 {
     match engine.write(batch) {
@@ -67,7 +61,7 @@ fn answer_write<D: Disk>(engine: &mut Engine<D>, batch: &Batch) -> Result<Answer
 
 fn answer_get<D: Disk>(engine: &Engine<D>, family: &Family, key: &Key) -> Result<Answer, AllocError>
     ensures short { IfOk result (λ answer. is_long answer.reply ≡ false) }
-    ensures answered { IfOk result (λ answer. (state : ModelState) → StandsForState engine.now.store state
+    ensures answered { IfOk result (λ answer. (state : ModelState) → Stands engine.now state
         → (answer.place ≡ state.place) × (answer.reply ≡ get_answer state state.last family.now key.now)) }
 {
     let place = engine.place();
@@ -90,19 +84,14 @@ fn answer_get<D: Disk>(engine: &Engine<D>, family: &Family, key: &Key) -> Result
 // Answers a command that is served, by the engine.
 fn answer_command<D: Disk>(engine: &mut Engine<D>, command: &Command) -> Result<Answer, AllocError>
     requires served { IsServed command.now }
-    requires tied { IsHonest (D.tells engine.old.disk) → engine.old.stopped ≡ None
-        → IsTied engine.old.wal engine.old.store (D.tells engine.old.disk) }
-    ensures steps { IfOk result (λ answer. (state : ModelState) → StandsForState engine.old.store state
-        → EngineSteps engine.old.store engine.new.store engine.old.stopped engine.new.stopped (D.tells engine.old.disk)
-        (D.tells engine.new.disk) state (answered_call command.now answer)) }
+    requires ready { IsReadyOn engine.old (D.tells engine.old.disk) }
+    ensures steps { IfOk result (EngineAnswers D.tells engine.old engine.new command.now) }
     ensures short { IfOk result (λ answer. is_long answer.reply ≡ false) }
-    ensures tied { IsHonest (D.tells engine.old.disk) → engine.new.stopped ≡ None
-        → IsTied engine.new.wal engine.new.store (D.tells engine.new.disk) }
+    ensures ready { IsReadyOn engine.new (D.tells engine.new.disk) }
     ensures untouched { (engine.old.stopped ≡ None) ⊎ (engine.new.disk ≡ engine.old.disk) }
     ensures cause { (engine.new.stopped ≡ engine.old.stopped)
         ⊎ Rose (D.tells engine.old.disk).faults (D.tells engine.new.disk).faults }
-    ensures options { (engine.new.store.behind ≡ engine.old.store.behind)
-        × (engine.new.store.capacity ≡ engine.old.store.capacity) }
+    ensures options { SameOptions engine.old engine.new }
     ensures passes { Passes (D.tells engine.old.disk) (D.tells engine.new.disk) }
 {
     match command {
@@ -160,19 +149,14 @@ pub fn answer_printed<D: Disk>(
     printed: usize,
 ) -> Result<Answer, AllocError>
     requires served { IsServed command.now }
-    requires tied { IsHonest (D.tells engine.old.disk) → engine.old.stopped ≡ None
-        → IsTied engine.old.wal engine.old.store (D.tells engine.old.disk) }
-    ensures steps { IfOk result (λ answer. (state : ModelState) → StandsForState engine.old.store state
-        → EngineSteps engine.old.store engine.new.store engine.old.stopped engine.new.stopped
-        (D.tells engine.old.disk) (D.tells engine.new.disk) state (answered_call command.now answer)) }
+    requires ready { IsReadyOn engine.old (D.tells engine.old.disk) }
+    ensures steps { IfOk result (EngineAnswers D.tells engine.old engine.new command.now) }
     ensures cut { IfOk result (λ answer. IsCut printed (answered_call command.now answer)) }
-    ensures tied { IsHonest (D.tells engine.old.disk) → engine.new.stopped ≡ None
-        → IsTied engine.new.wal engine.new.store (D.tells engine.new.disk) }
+    ensures ready { IsReadyOn engine.new (D.tells engine.new.disk) }
     ensures untouched { (engine.old.stopped ≡ None) ⊎ (engine.new.disk ≡ engine.old.disk) }
     ensures cause { (engine.new.stopped ≡ engine.old.stopped)
         ⊎ Rose (D.tells engine.old.disk).faults (D.tells engine.new.disk).faults }
-    ensures options { (engine.new.store.behind ≡ engine.old.store.behind)
-        × (engine.new.store.capacity ≡ engine.old.store.capacity) }
+    ensures options { SameOptions engine.old engine.new }
     ensures passes { Passes (D.tells engine.old.disk) (D.tells engine.new.disk) }
 {
     if is_cut(command, printed) {

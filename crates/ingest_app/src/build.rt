@@ -5,7 +5,8 @@ ghost use Rattle.build_text.specs.Build.{GivesEntries, build_of, entries_from, s
 ghost use Rattle.build_text.specs.Words.{text_parts};
 ghost use Rattle.ingest_app.specs.Convert.{EndsBytes, GivesTable, build_cause, fault_at, fit_table, unfinished};
 
-use crate::conversions::{Conversion, refused};
+use crate::command_line::Conversion;
+use crate::conversions::refused;
 use crate::outcome::Outcome;
 use crate::status::Status;
 use build_text::{BuildFault, EntryWriter, LineEntry, write_build};

@@ -2,9 +2,8 @@
 ghost use Rattle.std.specs.Prelude.{◌≡◌, ◌⊎◌, [], IfOk, OnOk, None, is_some};
 ghost use Rattle.std.specs.List.{AllByRecursion as Each};
 ghost use Rattle.st_base.specs.Count.{Rose};
-ghost use Rattle.st_device.specs.Disk.{IsHonest, Passes};
-ghost use Rattle.log_engine.specs.Engine.{IsTied};
-ghost use Rattle.log_engine.specs.MarkStore.{StandsForState};
+ghost use Rattle.st_device.specs.Disk.{Passes};
+ghost use Rattle.log_engine.specs.Engine.{IsReadyOn, SameOptions, Stands, capacity_of};
 ghost use Rattle.st_model.specs.declared.state.ModelState.{ModelState};
 ghost use Rattle.st_model.specs.State.{IsOpening};
 ghost use Rattle.ingest_app.specs.Client.{AreClientsAnswered, transcript};
@@ -38,17 +37,14 @@ fn print_answer<D: Disk>(
     text: &mut Bytes,
 ) -> Result<(), AllocError>
     requires served { IsServed command.now }
-    requires tied { IsHonest (D.tells engine.old.disk) → engine.old.stopped ≡ None
-        → IsTied engine.old.wal engine.old.store (D.tells engine.old.disk) }
-    ensures printed { OnOk result (Prints engine.old.store engine.new.store engine.old.stopped engine.new.stopped
-        (D.tells engine.old.disk) (D.tells engine.new.disk) command.now heading text.old text.new) }
-    ensures tied { IsHonest (D.tells engine.old.disk) → engine.new.stopped ≡ None
-        → IsTied engine.new.wal engine.new.store (D.tells engine.new.disk) }
+    requires ready { IsReadyOn engine.old (D.tells engine.old.disk) }
+    ensures printed { OnOk result
+        (Prints D.tells engine.old engine.new command.now heading text.old text.new) }
+    ensures ready { IsReadyOn engine.new (D.tells engine.new.disk) }
     ensures untouched { (engine.old.stopped ≡ None) ⊎ (engine.new.disk ≡ engine.old.disk) }
     ensures cause { (engine.new.stopped ≡ engine.old.stopped)
         ⊎ Rose (D.tells engine.old.disk).faults (D.tells engine.new.disk).faults }
-    ensures options { (engine.new.store.behind ≡ engine.old.store.behind)
-        × (engine.new.store.capacity ≡ engine.old.store.capacity) }
+    ensures options { SameOptions engine.old engine.new }
     ensures passes { Passes (D.tells engine.old.disk) (D.tells engine.new.disk) }
 {
     let answer = answer_printed(engine, command, text.len().saturating_sub(heading))?;
@@ -63,11 +59,10 @@ pub fn answer_script<D: Disk>(
     engine: &mut Engine<D>,
 ) -> Result<Bytes, AllocError>
     requires served { Each (λ numbered. IsServed numbered.command) script.now.commands }
-    requires tied { IsHonest (D.tells engine.old.disk)
-        → IsTied engine.old.wal engine.old.store (D.tells engine.old.disk) }
+    requires ready { IsReadyOn engine.old (D.tells engine.old.disk) }
     requires running { engine.old.stopped ≡ None }
-    requires capacity { engine.old.store.capacity ≡ CAPACITY }
-    ensures answered { IfOk result (λ text. (opening : ModelState) → StandsForState engine.old.store opening
+    requires capacity { capacity_of engine.old ≡ CAPACITY }
+    ensures answered { IfOk result (λ text. (opening : ModelState) → Stands engine.old opening
         → IsOpening opening → AreClientsAnswered (one_client name.now script.now.commands) text opening
         (D.tells engine.old.disk) (D.tells engine.new.disk) (is_some engine.new.stopped)) }
     ensures cause { (engine.new.stopped ≡ None)

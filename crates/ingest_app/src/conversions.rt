@@ -1,56 +1,31 @@
 //! Conversions of the source: build text to a table, and back.
-ghost use Rattle.std.specs.Prelude.{◌≡◌, ◌⊎◌, ◌≤◌, ◌<◌, [], List, ℕ, None, length, IfOk, IsTrue, IsSome, IsSomeAnd, MatchOption, map, String, string_bytes};
+ghost use Rattle.std.specs.Prelude.{◌≡◌, ◌≤◌, ◌<◌, List, ℕ, length, IfOk, map, String, string_bytes};
 ghost use Rattle.st_base.specs.Count.{Rose};
-ghost use Rattle.ingest_app.specs.Convert.{Converted, EndsBytes, EndsNoForm, EndsSource, IsConvertible, IsOfBytes, IsUnconvertible, conversion_of, refused_text, source_text};
-ghost use Rattle.ingest_app.specs.Run.{Writes, EndsWriting};
 ghost use Rattle.st_stream.specs.SourceRead.{IsReadWithin, source_read};
+ghost use Rattle.ingest_app.specs.Convert.{ConversionCause, EndsBytes, EndsSource, IsOfBytes};
+ghost use Rattle.ingest_app.specs.Ended.{AsksConversion, ConvertingCause, EndsConverting, IsConverted};
+ghost use Rattle.ingest_app.specs.Form.{form_of, form_read};
+ghost use Rattle.ingest_app.specs.Outside.{EndsWriting};
+ghost use Rattle.ingest_app.specs.Texts.{refused_text, source_text};
 
 use crate::build::build;
-use crate::outcome::{Outcome, not_yet};
+use crate::command_line::{CommandLine, Conversion, read_command_line};
+use crate::outcome::{Outcome, write_outcome};
 use crate::show::show;
 use crate::status::Status;
-use crate::write::write_outcome;
+use crate::texts::{refused_text, source_text};
+use crate::unknown::write_unknown;
 use st_base::{Bytes, SOURCE_BYTES};
 use st_stream::{ReadFault, Sink, Source, SourceRead, read_source};
 use std::alloc::{AllocError, Global};
-
-/// What is made of the source.
-#[derive(Clone, Copy, PartialEq, Eq, Drop)]
-pub enum Conversion {
-    /// A table of a build text.
-    Build,
-    /// The build text of a table.
-    Show,
-}
-
-/// The conversion that the words ask for: `build` or `show`.
-pub fn conversion_of(words: &[String]) -> Option<Conversion>
-    ensures { result ≡ conversion_of (map string_bytes words.now) }
-{
-    match words {
-        [form] => {
-            if form.as_bytes() == b"build".as_slice() {
-                return Some(Conversion::Build);
-            }
-            if form.as_bytes() == b"show".as_slice() {
-                return Some(Conversion::Show);
-            }
-            None
-        }
-        _ => None,
-    }
-}
 
 /// What a source is answered that isn't converted, by the cause.
 pub fn refused(alloc: Global, cause: &[u8]) -> Result<Outcome, AllocError>
     ensures { IfOk result (λ outcome. (outcome.status ≡ Status.Refused) × (outcome.text ≡ refused_text cause.now)) }
 {
-    let mut text = Bytes::from_slice(alloc, b"refused ")?;
-    text.extend_from_slice(cause)?;
-    text.push(b'\n')?;
     Ok(Outcome {
         status: Status::Refused,
-        text,
+        text: refused_text(alloc, cause)?,
     })
 }
 
@@ -60,7 +35,7 @@ fn unread(alloc: Global) -> Result<Outcome, AllocError>
 {
     Ok(Outcome {
         status: Status::InputFault,
-        text: Bytes::from_slice(alloc, b"input\n")?,
+        text: source_text(alloc)?,
     })
 }
 
@@ -118,33 +93,45 @@ fn convert_source<S: Source>(
     }
 }
 
-// Converts the source, as the words ask, and writes the text of the outcome and nothing else.
-fn convert_words<S: Source, K: Sink>(
+/// Converts the source, and writes the text of the outcome and nothing else.
+pub fn convert_source_to<S: Source, K: Sink>(
     alloc: Global,
-    words: &[String],
+    form: Conversion,
     source: &mut S,
     sink: &mut K,
 ) -> Status
-    ensures ended { MatchOption (conversion_of (map string_bytes words.now))
-        (EndsWriting EndsNoForm (K.tells sink.old) (K.tells sink.new) result)
-        (λ form. Converted form (S.tells source.old) (S.tells source.new) (K.tells sink.old)
-        (K.tells sink.new) result) }
-    ensures quiet { result ≡ Status.Done → ((S.tells source.new).faults ≡ (S.tells source.old).faults)
-        × ((K.tells sink.new).faults ≡ (K.tells sink.old).faults) }
+    ensures ended { EndsWriting (EndsSource form (S.tells source.old) (S.tells source.new))
+        (K.tells sink.old) (K.tells sink.new) result }
+    ensures cause { ConversionCause form (S.tells source.old) (S.tells source.new)
+        (K.tells sink.old) (K.tells sink.new) result }
 {
-    match conversion_of(words) {
-        Some(form) => {
-            let outcome = convert_source(alloc, form, source);
-            write_outcome(sink, outcome)
-        }
-        None => write_outcome(sink, not_yet(alloc)),
+    let outcome = convert_source(alloc, form, source);
+    write_outcome(sink, outcome)
+}
+
+// Converts the source, where the words ask for that.
+fn convert_line<S: Source, K: Sink>(
+    alloc: Global,
+    line: CommandLine<'_>,
+    source: &mut S,
+    sink: &mut K,
+) -> Status
+    ensures ended { EndsWriting (EndsConverting (form_read line) (S.tells source.old) (S.tells source.new))
+        (K.tells sink.old) (K.tells sink.new) result }
+    ensures cause { ConvertingCause (form_read line) (S.tells source.old) (S.tells source.new)
+        (K.tells sink.old) (K.tells sink.new) result }
+{
+    match line {
+        CommandLine::Convert(form) => convert_source_to(alloc, form, source, sink),
+        CommandLine::Run(_) => write_unknown(alloc, sink),
+        CommandLine::Unknown => write_unknown(alloc, sink),
     }
 }
 
 /// Converts the source, as the words ask: `build` writes the table of a build text, and `show` the build text of an
 /// external table. The status says how it ended. It calls on nothing but the source and the sink, and always returns.
 ///
-/// Where the source or the sink doesn't tell what it holds, as standard input and output, nothing is said of it.
+/// Where the source doesn't tell its bytes, as standard input, there are bytes from which all that is said follows.
 pub fn convert<S: Source, K: Sink>(
     alloc: Global,
     words: &[String],
@@ -152,32 +139,18 @@ pub fn convert<S: Source, K: Sink>(
     sink: &mut K,
 ) -> Status
     // What was written, status by status: after Done the table, or the build text; after Refused the first fault.
-    ensures ended { MatchOption (conversion_of (map string_bytes words.now))
-        (EndsWriting EndsNoForm (K.tells sink.old) (K.tells sink.new) result)
-        (λ form. Converted form (S.tells source.old) (S.tells source.new) (K.tells sink.old)
-        (K.tells sink.new) result) }
+    ensures ended { EndsWriting
+        (EndsConverting (form_of (map string_bytes words.now)) (S.tells source.old) (S.tells source.new))
+        (K.tells sink.old) (K.tells sink.new) result }
 
     // When each status comes.
-    ensures not_yet { result ≡ Status.NotYet → conversion_of (map string_bytes words.now) ≡ None }
-    ensures input_fault { result ≡ Status.InputFault → Rose (S.tells source.old).faults (S.tells source.new).faults }
-    ensures sink_fault { result ≡ Status.SinkFault → Rose (K.tells sink.old).faults (K.tells sink.new).faults }
-    ensures done { result ≡ Status.Done
-        → IsSomeAnd (conversion_of (map string_bytes words.now))
-        (λ form. IsTrue (S.tells source.old).known → IsConvertible form (S.tells source.old).left) }
-    ensures refused { result ≡ Status.Refused
-        → IsSomeAnd (conversion_of (map string_bytes words.now))
-        (λ form. IsTrue (S.tells source.old).known → IsUnconvertible form (S.tells source.old).left) }
-
-    // Done comes only where no count of faults rose.
-    ensures quiet { result ≡ Status.Done → ((S.tells source.new).faults ≡ (S.tells source.old).faults)
-        × ((K.tells sink.new).faults ≡ (K.tells sink.old).faults) }
-    ensures memory { result ≡ Status.Memory → Writes (K.tells sink.old) (K.tells sink.new) [] }
+    ensures cause { ConvertingCause (form_of (map string_bytes words.now)) (S.tells source.old) (S.tells source.new)
+        (K.tells sink.old) (K.tells sink.new) result }
 
     // Words that ask for a conversion are answered, where nothing fails and memory is there.
-    ensures complete { IsSome (conversion_of (map string_bytes words.now))
+    ensures complete { AsksConversion (form_of (map string_bytes words.now))
         → ¬ Rose (S.tells source.old).faults (S.tells source.new).faults
-        → ¬ Rose (K.tells sink.old).faults (K.tells sink.new).faults
-        → (result ≡ Status.Done) ⊎ (result ≡ Status.Refused) ⊎ (result ≡ Status.Memory) }
+        → ¬ Rose (K.tells sink.old).faults (K.tells sink.new).faults → IsConverted result }
 {
-    convert_words(alloc, words, source, sink)
+    convert_line(alloc, read_command_line(words), source, sink)
 }

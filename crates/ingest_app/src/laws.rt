@@ -1,6 +1,6 @@
 ghost use Rattle.std.specs.Prelude.{◌≡◌, List, ℕ};
 ghost use Rattle.ingest_app.specs.Convert.{EndsBytes};
-ghost use Rattle.ingest_app.specs.declared.conversions.Conversion.TheVariants.{Build, Show};
+ghost use Rattle.ingest_app.specs.declared.command_line.Conversion.TheVariants.{Build, Show};
 ghost use Rattle.ingest_app.specs.declared.status.Status.{Status};
 ghost use Rattle.ingest_app.specs.declared.status.Status.TheVariants.{Done};
 

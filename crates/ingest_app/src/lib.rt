@@ -8,15 +8,21 @@
 mod answer;
 mod build;
 mod client;
+mod client_run;
+mod command_line;
 mod conversions;
+mod in_memory;
 mod laws;
 mod outcome;
 mod show;
 mod status;
+mod texts;
 mod top_call;
-mod write;
+mod unknown;
 
-pub use conversions::{Conversion, convert};
+pub use command_line::Conversion;
+pub use conversions::convert;
+pub use in_memory::run_in_memory;
 pub use laws::show_gives_back_what_was_built;
 pub use status::Status;
 pub use top_call::run;

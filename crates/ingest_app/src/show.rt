@@ -4,7 +4,8 @@ ghost use Rattle.st_base.specs.Faults.{printed_table_fault};
 ghost use Rattle.build_text.specs.Build.{build_text};
 ghost use Rattle.ingest_app.specs.Convert.{EndsBytes};
 
-use crate::conversions::{Conversion, refused};
+use crate::command_line::Conversion;
+use crate::conversions::refused;
 use crate::outcome::Outcome;
 use crate::status::Status;
 use build_text::push_build_line;

@@ -1,8 +1,7 @@
 // The engine over a disk in memory.
 ghost use Rattle.std.specs.Prelude.{IfOk};
-ghost use Rattle.st_device.specs.Disk.{IsHonest};
 ghost use Rattle.st_device.specs.MemDisk.{told};
-ghost use Rattle.log_engine.specs.Engine.{IsTied};
+ghost use Rattle.log_engine.specs.Engine.{IsReadyOn};
 ghost use Rattle.log_engine.specs.Op.{IsWrite};
 
 use crate::outside::disk;
@@ -27,7 +26,7 @@ fn one_put(alloc: Global, key: &[u8; 1]) -> Result<Batch, Fail>
 
 // An engine over a disk without files, which fails at this one of its calls.
 fn new_engine(alloc: Global, failing: u64, capacity: u64) -> Result<Engine<MemDisk>, Fail>
-    ensures { IfOk result (λ engine. IsHonest (told engine.disk) → IsTied engine.wal engine.store (told engine.disk)) }
+    ensures { IfOk result (λ engine. IsReadyOn engine (told engine.disk)) }
 {
     let disk = disk(alloc, failing)?;
     let options = Options {
@@ -58,8 +57,7 @@ fn answer_of(answer: Result<AcceptedWrite, Refusal>) -> Answer {
 fn write_twice(engine: &mut Engine<MemDisk>, one: &Batch, two: &Batch) -> (Answer, Answer)
     requires one { IsWrite one.now.ops }
     requires two { IsWrite two.now.ops }
-    requires tied { IsHonest (told engine.old.disk)
-        → IsTied engine.old.wal engine.old.store (told engine.old.disk) }
+    requires ready { IsReadyOn engine.old (told engine.old.disk) }
 {
     let first = answer_of(engine.write(one));
     let second = answer_of(engine.write(two));

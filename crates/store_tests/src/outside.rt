@@ -1,5 +1,5 @@
 // What a run is given, in memory.
-use ingest_app::{Status, convert, run};
+use ingest_app::{Status, convert, run_in_memory};
 use st_base::{Bytes, List, Name};
 use st_device::MemDisk;
 use st_stream::{InputFile, MemInputs, MemSink, MemSource};
@@ -77,7 +77,7 @@ fn make_outside(
 impl Outside {
     // Runs the words over a disk.
     fn run(&mut self, alloc: Global, disk: MemDisk) -> (Status, MemDisk) {
-        run(
+        run_in_memory(
             alloc,
             self.words.as_slice(),
             disk,

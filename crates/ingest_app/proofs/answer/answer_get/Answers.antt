@@ -1,4 +1,4 @@
-use Rattle.std.proofs.Common.{◌∷◌, [], ap, sym, ◌∙◌}
+use Rattle.std.proofs.Common.{◌∷◌, [], ap, ◌∙◌}
 use Rattle.st_model.specs.declared.reply.Reply.TheVariants.{Refused}
 use Rattle.st_model.specs.Answer.{unknown_families}
 use Rattle.st_model.specs.Reads.{found, read_in}
@@ -7,7 +7,7 @@ use Rattle.ingest_app.proofs.answer.answer_get.Goals as goal
 
 pub returns-in_ok-shown-in-Err-clause-answered : goal.returns-in_ok-shown-in-Err-clause-answered
 returns-in_ok-shown-in-Err-clause-answered g c = λ state h. (
-  c.place-place.ensures ∙ sym h.place,
+  c.place-place.ensures state h,
   ap Refused c.in_ok-shown-in-Err.ensures.same
       ∙ first_reply (unknown_families state (c.args.family.now ∷ [])) c.in-Err.refusal (found (read_in state state.last c.args.family.now c.args.key.now)) (c.in-Err.ensures.refused state h) c.in-Err.ensures.no_stop c.in_ok-shown-in-Err.ensures.memory,
 )

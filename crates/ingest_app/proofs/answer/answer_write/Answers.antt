@@ -1,6 +1,6 @@
 use Rattle.std.proofs.Common.{◌≡◌, ◌⊎◌, ⊎_elim, inl, inr, ◌∙◌, None, Err, false, ap, sym, subst}
 use Rattle.st_device.specs.Disk.{Image, IsHonest, Leaves}
-use Rattle.log_engine.specs.Engine.{OpensTo, state_written}
+use Rattle.log_engine.specs.Engine.{OpensTo, Stands, capacity_of, state_written}
 use Rattle.log_engine.proofs.Writing.{tied_opens}
 use Rattle.st_model.specs.declared.command.Command.TheVariants.{Write}
 use Rattle.st_model.specs.declared.refusal.Refusal.{Refusal}
@@ -32,7 +32,7 @@ returns-in_ok-shown-in-Err-clause-steps g c = λ state h.
     let e = c.in-Err.ensures in
     let stops : refusal ≡ DiskFault → new.stopped ≡ None → ⊥ = λ fault none. cc (sym (e.fault (ap Err fault)) ∙ none) in
     let stays : (refusal ≡ DiskFault → ⊥) → new.stopped ≡ old.stopped = λ other. e.stop_unchanged (λ is. other (cc is)) in
-    let opens : IsHonest before → old.stopped ≡ None → (image : Image) → before.now image → OpensTo state image = λ honest running image now. tied_opens old.wal old.store state (c.requires.tied honest running) h image now in
+    let opens : IsHonest before → old.stopped ≡ None → (image : Image) → before.now image → OpensTo state image = λ honest running image now. tied_opens old.wal old.store state (c.requires.ready honest running) h image now in
     let still : new.stopped ≡ None → (old.stopped ≡ None) × (is_stop (Refused refusal) ≡ false) = λ none. ⊎_elim
     (λ (fault : refusal ≡ DiskFault). absurd (stops fault none))
     (λ (other : refusal ≡ DiskFault → ⊥).
@@ -47,5 +47,6 @@ returns-in_ok-shown-in-Err-clause-steps g c = λ state h.
     (λ (fault : refusal ≡ DiskFault). absurd (stops fault none))
     (λ (other : refusal ≡ DiskFault → ⊥). opens honest (sym (stays other) ∙ none) image (subst (λ disk. (g.D.Disk.tells disk).now image) (e.untouched other) now))
     (fault_or refusal) in
-    subst (λ (shown : Refusal). EngineSteps old.store new.store old.stopped new.stopped before after_it state (answered_call (Write batch) (record { place = c.place.result; reply = Refused shown }))) (sym c.in_ok-shown-in-Err.ensures.same)
-    (refused_steps old.store new.store old.stopped new.stopped before after_it state batch c.place.result refusal h (e.unchanged state h) c.place.ensures c.in_ok-shown-in-Err.ensures.memory (e.refused state h) still crash whole)
+    subst (λ (shown : Refusal). EngineSteps (capacity_of old) (Stands new) old.stopped new.stopped before after_it state (answered_call (Write batch) (record { place = c.place.result; reply = Refused shown }))) (sym c.in_ok-shown-in-Err.ensures.same)
+    (refused_steps old.store new.store old.stopped new.stopped before after_it state batch c.place.result refusal h (e.unchanged state h) (c.place.ensures state (e.unchanged state h)) c.in_ok-shown-in-Err.ensures.memory (e.refused state h) still
+    (λ stopped. e.stopped.0 (ap Err stopped)) (λ some. cc (e.stopped.1 some)) crash whole)

@@ -5,8 +5,7 @@ use Rattle.st_base.specs.Count.{Rose}
 use Rattle.st_device.specs.Disk.{Image, IsHonest}
 use Rattle.st_device.proofs.Calls.{rose_later, rose_then}
 use Rattle.st_device.proofs.Moments.{passes_start, passes_then}
-use Rattle.log_engine.specs.Engine.{OpensTo}
-use Rattle.log_engine.specs.MarkStore.{StandsForState}
+use Rattle.log_engine.specs.Engine.{OpensTo, Stands}
 use Rattle.log_engine.proofs.Writing.{tied_opens}
 use Rattle.st_model.specs.declared.command.Command.{Command}
 use Rattle.st_model.specs.declared.state.ModelState.{ModelState}
@@ -15,6 +14,7 @@ use Rattle.cmd_text.specs.declared.script.Numbered.{Numbered}
 use Rattle.st_model.specs.Calls.{AreCallsOf}
 use Rattle.st_model.specs.History.{state_at}
 use Rattle.ingest_app.specs.Client.{commands_alone, transcript}
+use Rattle.ingest_app.specs.Faults.{IsFaultTold}
 use Rattle.ingest_app.specs.Op.{IsServed}
 use Rattle.ingest_app.proofs.Along.{Along, along_grows, along_start, each_at, no_files, none_of}
 use Rattle.ingest_app.proofs.client.answer_script.Goals as goal
@@ -24,18 +24,15 @@ loop-numbered-init g c =
     let engine = c.args.engine.now in
     let disk = g.D.Disk.tells engine.disk in
     let clock = g.met.D.Disk.clock engine.disk in
-    let opens : (opening : ModelState) → StandsForState engine.store opening → IsHonest disk → (image : Image) → disk.now image → OpensTo opening image = λ opening h honest image now. tied_opens engine.wal engine.store opening (c.requires.tied honest) h image now in
+    let opens : (opening : ModelState) → Stands engine opening → IsHonest disk → (image : Image) → disk.now image → OpensTo opening image = λ opening h honest image now. tied_opens engine.wal engine.store opening (c.requires.ready honest c.requires.running) h image now in
     record {
       passes = passes_start clock;
       capacity = refl;
       cause = inl c.requires.running;
-      tied = λ honest running. c.requires.tied honest;
-      along = λ opening h fresh. along_start c.args.name.now c.in_ok-text.text opening disk engine.store engine.stopped c.in_ok-text.ensures h fresh c.requires.running
+      ready = c.requires.ready;
+      along = λ opening h fresh. along_start c.args.name.now c.in_ok-text.text opening disk (Stands engine) engine.stopped c.in_ok-text.ensures h fresh c.requires.running
           (λ honest image left. opens opening h honest image (clock.only_now image left)) (opens opening h);
     }
-
-pub print_answer-requires-clause-tied : goal.print_answer-requires-clause-tied
-print_answer-requires-clause-tied g c = λ honest running. c.loop-numbered.invariant.tied (c.loop-numbered.invariant.passes.honest_back honest) running
 
 pub loop-numbered-preserved : goal.loop-numbered-preserved
 loop-numbered-preserved g c =
@@ -63,10 +60,10 @@ loop-numbered-preserved g c =
           i.cause)
           (λ (rose : Rose (g.D.Disk.tells old.disk).faults (g.D.Disk.tells new.disk).faults). inr (rose_then (g.D.Disk.tells first.disk).faults (g.D.Disk.tells old.disk).faults (g.D.Disk.tells new.disk).faults i.passes.faults rose))
           e.cause;
-      tied = λ honest running. e.tied (i.passes.honest_on honest) running;
-      along = λ (opening : ModelState) (h : StandsForState first.store opening) (fresh : IsOpening opening).
-          subst (λ commands. Along c.args.name.now c.print_answer.new.text opening (g.D.Disk.tells first.disk) (g.D.Disk.tells new.disk) new.store new.stopped commands) taken
-          (along_grows g.D.Disk.tells c.args.name.now c.loop-numbered.text c.print_answer.new.text opening (g.D.Disk.tells first.disk) old.disk new.disk old.store new.store old.stopped new.stopped (map named (take c.loop-numbered.numbered-index items)) command
+      ready = e.ready;
+      along = λ (opening : ModelState) (h : Stands first opening) (fresh : IsOpening opening).
+          subst (λ commands. Along c.args.name.now c.print_answer.new.text opening (g.D.Disk.tells first.disk) (g.D.Disk.tells new.disk) (Stands new) new.stopped commands) taken
+          (along_grows g.D.Disk.tells c.args.name.now c.loop-numbered.text c.print_answer.new.text opening (g.D.Disk.tells first.disk) old new (map named (take c.loop-numbered.numbered-index items)) command
           c.len-heading.result (c.len-heading.ensures ∙ ap length c.in_ok-text.ensures) served
           i.passes e.passes (i.capacity ∙ c.requires.capacity) (i.along opening h fresh) e.printed e.untouched (g.met.D.Disk.clock new.disk));
     }
@@ -80,8 +77,9 @@ returns-clause-answered g c = λ opening h fresh.
     record {
       transcripts = a.calls ∷ [];
       answers = record {
-        answered = (record { seen = no_files (commands_alone c.args.script.now.commands); answers = a.answers; are = subst (λ commands. AreCallsOf commands (no_files commands) a.answers a.calls) all a.are; unknown = a.unknown }, tt);
+        answered = (record { seen = no_files (commands_alone c.args.script.now.commands); answers = a.answers; are = subst (λ commands. AreCallsOf commands (no_files commands) a.answers a.calls) all a.are; unknown = a.unknown; stop = a.stop }, tt);
         legal = a.legal;
+        faults = subst (λ calls. Each (IsFaultTold opening (a.calls ∷ [])) calls) (sym (append-nil a.calls)) a.faults;
         printed = a.printed ∙ sym (append-nil (transcript c.args.name.now a.calls));
       };
       moments = a.moments;

@@ -4,7 +4,7 @@ use Rattle.ingest_app.specs.Client.{AreClientsAnswered, EndsAnswered}
 use Rattle.ingest_app.specs.Run.{one_client}
 use Rattle.ingest_app.specs.declared.status.Status.{Status}
 use Rattle.ingest_app.proofs.Opening.{answered_as}
-use Rattle.ingest_app.proofs.outcome.run_engine.Goals as goal
+use Rattle.ingest_app.proofs.client_run.run_engine.Goals as goal
 
 pub returns-in-Ok-clause-ends : goal.returns-in-Ok-clause-ends
 returns-in-Ok-clause-ends g c = λ opening h fresh.

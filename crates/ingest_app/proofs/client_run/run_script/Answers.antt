@@ -2,12 +2,12 @@ use Rattle.std.proofs.Common.{refl}
 use Rattle.ingest_app.specs.Client.{EndsAnswered, opening_of}
 use Rattle.ingest_app.specs.Run.{EndsOpening, EndsScripts, one_client}
 use Rattle.ingest_app.specs.declared.outcome.Outcome.{Outcome}
-use Rattle.log_engine.specs.MarkStore.{StandsForState}
+use Rattle.log_engine.specs.Engine.{Stands}
 use Rattle.st_model.specs.declared.state.ModelState.{ModelState}
 use Rattle.st_model.specs.State.{IsOpening}
 use Rattle.ingest_app.proofs.Answering.{if_ok_map}
 use Rattle.ingest_app.proofs.Opening.{answered_ends, opening_ends}
-use Rattle.ingest_app.proofs.outcome.run_script.Goals as goal
+use Rattle.ingest_app.proofs.client_run.run_script.Goals as goal
 
 pub returns-in-Ok-clause-ends : goal.returns-in-Ok-clause-ends
 returns-in-Ok-clause-ends g c =
@@ -17,9 +17,9 @@ returns-in-Ok-clause-ends g c =
     let after = g.D.Disk.tells c.run_engine.result.1 in
     let e = c.in-Ok.ensures in
     let opened = e.opened in
-    if_ok_map (λ (outcome : Outcome). (opening : ModelState) → StandsForState c.in-Ok.engine.store opening → IsOpening opening → EndsAnswered clients opening mid after outcome.status outcome.text)
+    if_ok_map (λ (outcome : Outcome). (opening : ModelState) → Stands c.in-Ok.engine opening → IsOpening opening → EndsAnswered clients opening mid after outcome.status outcome.text)
     (λ (outcome : Outcome). EndsScripts clients before after outcome.status outcome.text) c.run_engine.result.0
-    (λ outcome ends. answered_ends clients outcome.text before mid after opened.ops e.disk.passes c.run_engine.ensures.passes opened.read e.crash outcome.status (ends (opening_of opened.ops) opened.stands (record { place = refl; live = refl })))
+    (λ outcome ends. answered_ends clients outcome.text before mid after opened.from e.disk.passes c.run_engine.ensures.passes opened.read e.crash outcome.status (ends (opening_of opened.from) opened.stands (record { place = refl; live = refl })))
     c.run_engine.ensures.ends
 
 pub returns-in-Err-clause-ends : goal.returns-in-Err-clause-ends

@@ -1,0 +1,46 @@
+use Rattle.std.proofs.Common.{subst, sym}
+use Rattle.ingest_app.specs.Convert.{EndsSource}
+use Rattle.ingest_app.specs.Ended.{ConvertingCause, EndsConverting, EndsUnknown}
+use Rattle.ingest_app.specs.Form.{form_read}
+use Rattle.ingest_app.specs.Form.Form.{Run, Convert, Unknown}
+use Rattle.ingest_app.specs.Outside.{EndsWriting}
+use Rattle.ingest_app.specs.declared.command_line.CommandLine.{CommandLine}
+use Rattle.ingest_app.proofs.Outcomes.{ends_as}
+use Rattle.ingest_app.proofs.conversions.convert_line.Goals as goal
+
+pub returns-in-Convert : goal.returns-in-Convert
+returns-in-Convert g c =
+    let before = g.S.Source.tells c.args.source.now in
+    let after = g.S.Source.tells c.convert_source_to.new.source in
+    let sink = g.K.Sink.tells c.args.sink.now in
+    let took = g.K.Sink.tells c.convert_source_to.new.sink in
+    let status = c.convert_source_to.result in
+    record {
+      ended = subst (λ (line : CommandLine). EndsWriting (EndsConverting (form_read line) before after) sink took status) (sym c.in-Convert.is)
+          (ends_as (EndsSource c.in-Convert.form before after) (EndsConverting (Convert c.in-Convert.form) before after) (λ status text h. h) sink took status c.convert_source_to.ensures.ended);
+      cause = subst (λ (line : CommandLine). ConvertingCause (form_read line) before after sink took status) (sym c.in-Convert.is) c.convert_source_to.ensures.cause;
+    }
+
+pub returns-in-Run : goal.returns-in-Run
+returns-in-Run g c =
+    let source = g.S.Source.tells c.args.source.now in
+    let sink = g.K.Sink.tells c.args.sink.now in
+    let took = g.K.Sink.tells c.write_unknown.new.sink in
+    let status = c.write_unknown.result in
+    record {
+      ended = subst (λ (line : CommandLine). EndsWriting (EndsConverting (form_read line) source source) sink took status) (sym c.in-Run.is)
+          (ends_as EndsUnknown (EndsConverting (Run _) source source) (λ status text h. h) sink took status c.write_unknown.ensures.ended);
+      cause = subst (λ (line : CommandLine). ConvertingCause (form_read line) source source sink took status) (sym c.in-Run.is) c.write_unknown.ensures.cause;
+    }
+
+pub returns-in-Unknown : goal.returns-in-Unknown
+returns-in-Unknown g c =
+    let source = g.S.Source.tells c.args.source.now in
+    let sink = g.K.Sink.tells c.args.sink.now in
+    let took = g.K.Sink.tells c.write_unknown-in-Unknown.new.sink in
+    let status = c.write_unknown-in-Unknown.result in
+    record {
+      ended = subst (λ (line : CommandLine). EndsWriting (EndsConverting (form_read line) source source) sink took status) (sym c.in-Unknown.is)
+          (ends_as EndsUnknown (EndsConverting Unknown source source) (λ status text h. h) sink took status c.write_unknown-in-Unknown.ensures.ended);
+      cause = subst (λ (line : CommandLine). ConvertingCause (form_read line) source source sink took status) (sym c.in-Unknown.is) c.write_unknown-in-Unknown.ensures.cause;
+    }
