@@ -74,6 +74,13 @@ expect 1 build <in
 echo 'refused TooLarge' >wanted
 expect 1 show <in
 
+# words that are no form, also where one isn't UTF-8
+echo notyet >wanted
+expect 9
+expect 9 build it
+expect 9 $'\xff'
+expect 9 run $'one\xff'
+
 # a source that fails (a folder), and a sink that does (a full device)
 echo input >wanted
 expect 4 build <.

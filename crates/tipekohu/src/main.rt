@@ -11,11 +11,18 @@ use std::io;
 use std::process::ExitCode;
 use std::rt::Files;
 
-// The words of the command line, without the program's name.
+// The words of the command line, without the program's name. None where one isn't UTF-8: no form has such a word, nor no
+// words.
 fn words_of<R: Env + AllocGlobal>(rt: &R) -> io::Result<Vec<String>> {
     let mut words = Vec::new(rt.alloc());
-    for word in env::args(rt)?.skip(1) {
-        words.push(word)?;
+    match env::args(rt) {
+        Ok(args) => {
+            for word in args.skip(1) {
+                words.push(word)?;
+            }
+        }
+        Err(error) if error.kind() == io::ErrorKind::InvalidData => {}
+        Err(error) => return Err(error),
     }
     Ok(words)
 }
@@ -40,7 +47,7 @@ fn run_here<R: Files<File = File> + Print + Input + Env + AllocGlobal + Clone + 
     Ok(status)
 }
 
-// Where memory runs out, the words aren't read.
+// Only want of memory keeps the words from being read.
 fn main(rt: HostRuntime) -> ExitCode {
     let status = run_here(&rt).unwrap_or(Status::Memory);
     ExitCode::from(status.number())
