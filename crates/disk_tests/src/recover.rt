@@ -5,6 +5,7 @@ use crate::disks::{FATES, left_by};
 use crate::puts::{append_both, one_put};
 use log_recover::{OpenFault, recover};
 use st_device::{Disk, MemDisk};
+use st_gate::ReplayFault;
 use st_wal::{LogRecord, Wal};
 use std::alloc::Global;
 use std::test::Fail;
@@ -142,5 +143,14 @@ fn a_crash_within_an_opening_leaves_a_new_store(rt: HostRuntime) -> Result<(), F
             "call {failing}"
         );
     }
+    Ok(())
+}
+
+#[test]
+fn faults_are_printed(rt: HostRuntime) -> Result<(), Fail> {
+    let replayed = ReplayFault::Damaged { file: 3, at: 8 }.to_string(rt.alloc())?;
+    let opened = OpenFault::Damaged { file: 3, at: 8 }.to_string(rt.alloc())?;
+    assert!(rt; replayed.as_str() == "file 3 is damaged from its byte 8 on");
+    assert!(rt; opened.as_str() == "the store is damaged: file 3, from its byte 8 on");
     Ok(())
 }
