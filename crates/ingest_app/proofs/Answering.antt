@@ -233,7 +233,7 @@ read_stays (commands.Await client number) reply reads = tt
 
 -- whether a command is a read for which the transcript is too long
 pub cut_reads : (command : Command) (long is : Bool) → is ≡ is_read command && long → is ≡ true → is_read command ≡ true
-cut_reads command long is both yes = go (is_read command) refl (sym both ∙ yes)
+cut_reads command long is both cuts = go (is_read command) refl (sym both ∙ cuts)
   where
     go : (b : Bool) → is_read command ≡ b → b && long ≡ true → is_read command ≡ true
     go true e h = e

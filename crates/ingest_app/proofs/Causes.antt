@@ -6,8 +6,7 @@ use Rattle.st_stream.specs.Sink.{SinkTold}
 use Rattle.ingest_app.specs.Client.{IsRun, client_script}
 use Rattle.ingest_app.specs.Convert.{EndsBytes, EndsConverted}
 use Rattle.ingest_app.specs.Ended.{Cause, Ended, EndsUnknown, IsComplete, UnknownCause}
-use Rattle.ingest_app.specs.Form.{Form}
-use Rattle.ingest_app.specs.Form.Form.{Run, Convert, Unknown}
+use Rattle.ingest_app.specs.Form.{Form, Run, Convert, Unknown}
 use Rattle.ingest_app.specs.Memory.{IsCompleteInMemory, RunsInMemory}
 use Rattle.ingest_app.specs.Outside.{EndsWriting, OutsideTold}
 use Rattle.ingest_app.specs.Run.{EndsRead, IsScript, IsUnopened, one_client}

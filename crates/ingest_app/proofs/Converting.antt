@@ -1,7 +1,6 @@
 -- What the end of a conversion says, status by status.
 use Rattle.std.proofs.Common.{◌≡◌, ◌⊎◌, inl, inr, ℕ, ◌+◌, ◌<◌, Bool, true, false, cond, List, [], ◌++◌, length, Some, IsTrue, refl, sym, ◌∙◌, ap, subst, arith, codes, true≢false}
-use Rattle.std.specs.Prelude.{nat_lt, nat_le, replicate, Result, Ok, Err, IfOk}
-use Rattle.std.proofs.lemmas.List.{length-replicate}
+use Rattle.std.specs.Prelude.{nat_lt, nat_le, Result, Ok, Err, IfOk}
 use Rattle.std.proofs.lemmas.Bool.Decides.{nat_tests}
 use Rattle.st_base.specs.declared.limits.TheConstants.{SOURCE_BYTES}
 use Rattle.st_base.specs.Count.{Rose}
@@ -15,16 +14,16 @@ use Rattle.st_table.specs.Footer.{footer_of, greatest_size}
 use Rattle.st_table.specs.Table.{first_fault, table_of}
 use Rattle.st_table.specs.declared.kind.TableKind.TheVariants.{External}
 use Rattle.ingest_app.specs.Convert.{ConversionCause, EndsBytes, EndsConverted, EndsSource, IsOfBytes}
-use Rattle.ingest_app.specs.Ended.{AsksConversion, ConvertingCause, IsConverted}
-use Rattle.ingest_app.specs.Form.{Form}
-use Rattle.ingest_app.specs.Form.Form.{Run, Convert, Unknown}
+use Rattle.ingest_app.specs.Ended.{AsksConversion, ConvertingCause, EndsConverting, EndsUnknown, IsConverted, UnknownCause}
+use Rattle.ingest_app.specs.Form.{Form, Run, Convert, Unknown}
 use Rattle.ingest_app.specs.Outside.{EndsWriting}
 use Rattle.ingest_app.specs.Texts.{refused_text}
 use Rattle.ingest_app.specs.declared.command_line.Conversion.{Conversion}
 use Rattle.ingest_app.specs.declared.command_line.Conversion.TheVariants.{Build, Show}
 use Rattle.ingest_app.specs.declared.status.Status.{Status}
 use Rattle.ingest_app.specs.declared.status.Status.TheVariants.{Done, Refused, Memory, InputFault, DiskFault, SinkFault, Script, Damaged, NotYet}
-use Rattle.ingest_app.proofs.Ends.{le_no, le_yes}
+use Rattle.ingest_app.proofs.Ends.{beyond, bytes_beyond, le_no, le_yes}
+use Rattle.ingest_app.proofs.Outcomes.{ends_as}
 
 -- bytes past the limit of a source are past that of a table
 pub long_table : (bytes : List ℕ) → SOURCE_BYTES < length bytes → first_fault bytes External ≡ Some TooLarge
@@ -85,8 +84,8 @@ source_ends form before after NotYet text is h = absurd is
 bytes_of : (limit : ℕ) (read : SourceRead) → IsReadWithin limit read → (bytes : List ℕ) × (read ≡ source_read limit bytes)
 bytes_of limit (Whole bytes) within = (bytes, sym (ap (λ b. cond b (Whole bytes) TooLong) (le_yes (length bytes) limit within)))
 bytes_of limit TooLong within =
-    let long : limit < length (replicate (limit + 1) 0) = omega (arith, length-replicate (limit + 1) 0) in
-    (replicate (limit + 1) 0, sym (ap (λ b. cond b (Whole (replicate (limit + 1) 0)) TooLong) (le_no (length (replicate (limit + 1) 0)) limit long)))
+    let long : nat_le (length (bytes_beyond limit)) limit ≡ false = le_no (length (bytes_beyond limit)) limit (beyond limit) in
+    (bytes_beyond limit, sym (ap (λ b. cond b (Whole (bytes_beyond limit)) TooLong) long))
 
 -- so a conversion of what was read is one of bytes, which are those of the source, where it tells them
 pub read_converted : (limit : ℕ) (form : Conversion) (source : SourceTold) (status : Status) (text : List ℕ) (read : SourceRead) → IsReadWithin limit read → (IsTrue source.known → read ≡ source_read limit source.left)
@@ -140,3 +139,18 @@ pub asked_complete : (form : Form) (before after : SourceTold) (sink_before sink
 asked_complete (Convert form) before after sink_before sink_after status cause asks = conversion_complete form before after sink_before sink_after status cause
 asked_complete (Run name) before after sink_before sink_after status cause asks = absurd asks
 asked_complete Unknown before after sink_before sink_after status cause asks = absurd asks
+
+-- words that ask for no conversion end as those that are no form
+pub unasked_ends : (form : Form) (source : SourceTold) (sink_before sink_after : SinkTold) (status : Status) → (AsksConversion form → ⊥)
+    → EndsWriting EndsUnknown sink_before sink_after status → EndsWriting (EndsConverting form source source) sink_before sink_after status
+unasked_ends (Run name) source sink_before sink_after status other =
+    ends_as EndsUnknown (EndsConverting (Run name) source source) (λ status text h. h) sink_before sink_after status
+unasked_ends Unknown source sink_before sink_after status other =
+    ends_as EndsUnknown (EndsConverting Unknown source source) (λ status text h. h) sink_before sink_after status
+unasked_ends (Convert form) source sink_before sink_after status other = absurd (other tt)
+
+pub unasked_cause : (form : Form) (source : SourceTold) (sink_before sink_after : SinkTold) (status : Status) → (AsksConversion form → ⊥)
+    → UnknownCause sink_before sink_after status → ConvertingCause form source source sink_before sink_after status
+unasked_cause (Run name) source sink_before sink_after status other cause = cause
+unasked_cause Unknown source sink_before sink_after status other cause = cause
+unasked_cause (Convert form) source sink_before sink_after status other cause = absurd (other tt)

@@ -14,7 +14,7 @@ use Rattle.st_stream.specs.declared.reading.FileRead.TheVariants.{Missing, TooLo
 use Rattle.cmd_text.specs.declared.script.Numbered.{Numbered}
 use Rattle.ingest_app.specs.Client.{client_script}
 use Rattle.ingest_app.specs.Ended.{IsComplete, RunCause}
-use Rattle.ingest_app.specs.Form.Form.{Run}
+use Rattle.ingest_app.specs.Form.{Run}
 use Rattle.ingest_app.specs.Outside.{EndsWriting, Faulted, IsQuiet, OutsideTold}
 use Rattle.ingest_app.specs.Run.{EndsRead, EndsRun, EndsClient, EndsScripts, HasFault, HasScript, HasStore, IsFaulty, IsOfFile, IsScript, one_client}
 use Rattle.ingest_app.specs.declared.status.Status.{Status}
@@ -52,13 +52,20 @@ le_yes a b le = grind (arith, nat_tests)
 pub le_no : (a b : ℕ) → b < a → nat_le a b ≡ false
 le_no a b less = grind (arith, nat_tests)
 
+-- bytes that are one more than these
+abbrev pub bytes_beyond : ℕ → List ℕ
+bytes_beyond limit = replicate (limit + 1) 0
+
+pub beyond : (limit : ℕ) → limit < length (bytes_beyond limit)
+beyond limit = let is : length (bytes_beyond limit) ≡ limit + 1 = length-replicate {A = ℕ} (limit + 1) 0 in omega (arith, is)
+
 -- what was read is what is read of some file
 file_of : (limit : ℕ) (read : FileRead) → IsFileWithin limit read → (file : Option (List ℕ)) × (read ≡ file_read limit file)
 file_of limit Missing within = (None, refl)
 file_of limit (Whole bytes) within = (Some bytes, sym (ap (λ b. cond b (Whole bytes) TooLong) (le_yes (length bytes) limit within)))
 file_of limit TooLong within =
-    let long : limit < length (replicate (limit + 1) 0) = omega (arith, length-replicate (limit + 1) 0) in
-    (Some (replicate (limit + 1) 0), sym (ap (λ b. cond b (Whole (replicate (limit + 1) 0)) TooLong) (le_no (length (replicate (limit + 1) 0)) limit long)))
+    let long : nat_le (length (bytes_beyond limit)) limit ≡ false = le_no (length (bytes_beyond limit)) limit (beyond limit) in
+    (Some (bytes_beyond limit), sym (ap (λ b. cond b (Whole (bytes_beyond limit)) TooLong) long))
 
 -- so a run of what was read is one of a file, which is that of the inputs, where they tell it
 pub read_ends : (limit : ℕ) (name : List ℕ) (inputs : InputsTold) (before after : DiskTold) (status : Status) (text : List ℕ) (read : FileRead) → IsFileWithin limit read → (IsTrue inputs.known → read ≡ file_read limit (inputs.file name))

@@ -5,8 +5,7 @@ use Rattle.st_device.specs.Disk.{IsHonest}
 use Rattle.st_stream.specs.Source.{SourceTold}
 use Rattle.st_stream.specs.Sink.{SinkTold}
 use Rattle.ingest_app.specs.Convert.{ConversionCause, EndsSource}
-use Rattle.ingest_app.specs.Form.{Form}
-use Rattle.ingest_app.specs.Form.Form.{Run, Convert, Unknown}
+use Rattle.ingest_app.specs.Form.{Form, Run, Convert, Unknown}
 use Rattle.ingest_app.specs.Outside.{EndsWriting, Faulted, IsQuiet, OutsideTold, Writes}
 use Rattle.ingest_app.specs.Run.{EndsRun, HasFault, HasScript, HasStore, IsBeforeDisk, IsDamaged}
 use Rattle.ingest_app.specs.Texts.{not_yet_text}

@@ -7,8 +7,7 @@ use Rattle.log_recover.specs.Contents.{OpenedContents, SameContents, disk_conten
 use Rattle.st_model.specs.declared.command.Call.{Call}
 use Rattle.ingest_app.specs.Client.{AreImagesOf, AreTranscriptsOf, client_script, opening_of}
 use Rattle.ingest_app.specs.Convert.{EndsBytes}
-use Rattle.ingest_app.specs.Form.{Form}
-use Rattle.ingest_app.specs.Form.Form.{Run, Convert, Unknown}
+use Rattle.ingest_app.specs.Form.{Form, Run, Convert, Unknown}
 use Rattle.ingest_app.specs.Outside.{Faulted, OutsideTold}
 use Rattle.ingest_app.specs.Run.{HasScript, one_client}
 use Rattle.ingest_app.specs.Texts.{disk_text}

@@ -116,9 +116,9 @@ fn convert_line<S: Source, K: Sink>(
     source: &mut S,
     sink: &mut K,
 ) -> Status
-    ensures ended { EndsWriting (EndsConverting (form_read line) (S.tells source.old) (S.tells source.new))
+    ensures ended { EndsWriting (EndsConverting (form_read line.entry) (S.tells source.old) (S.tells source.new))
         (K.tells sink.old) (K.tells sink.new) result }
-    ensures cause { ConvertingCause (form_read line) (S.tells source.old) (S.tells source.new)
+    ensures cause { ConvertingCause (form_read line.entry) (S.tells source.old) (S.tells source.new)
         (K.tells sink.old) (K.tells sink.new) result }
 {
     match line {

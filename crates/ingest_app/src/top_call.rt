@@ -50,17 +50,17 @@ fn run_line<D: Disk, I: Inputs, S: Source, K: Sink>(
     sink: &mut K,
 ) -> (Status, D)
     requires { HasFileName line }
-    ensures ended { Ended (form_read line)
+    ensures ended { Ended (form_read line.entry)
         (outside (I.tells inputs.old) (S.tells source.old) (D.tells disk) (K.tells sink.old))
         (outside (I.tells inputs.new) (S.tells source.new) (D.tells result.1) (K.tells sink.new)) result.0 }
-    ensures cause { Cause (form_read line)
+    ensures cause { Cause (form_read line.entry)
         (outside (I.tells inputs.old) (S.tells source.old) (D.tells disk) (K.tells sink.old))
         (outside (I.tells inputs.new) (S.tells source.new) (D.tells result.1) (K.tells sink.new)) result.0 }
     ensures passes { Passes (D.tells disk) (D.tells result.1) }
     ensures files { InputsUntouched (I.tells inputs.old) (I.tells inputs.new) }
-    ensures disk { LeavesDisk (form_read line) result.0 → result.1 ≡ disk }
-    ensures inputs { LeavesInputs (form_read line) → inputs.new ≡ inputs.old }
-    ensures source { LeavesSource (form_read line) → source.new ≡ source.old }
+    ensures disk { LeavesDisk (form_read line.entry) result.0 → result.1 ≡ disk }
+    ensures inputs { LeavesInputs (form_read line.entry) → inputs.new ≡ inputs.old }
+    ensures source { LeavesSource (form_read line.entry) → source.new ≡ source.old }
 {
     match line {
         CommandLine::Run(name) => run_named(alloc, name, disk, inputs, sink),

@@ -11,8 +11,8 @@ use std::io;
 use std::process::ExitCode;
 use std::rt::Files;
 
-// The words of the command line, without the program's name. None where one isn't UTF-8: no form has such a word, nor no
-// words.
+// The words of the command line, without the program's name. Where one of them isn't UTF-8 there are none, which is no
+// form either.
 fn words_of<R: Env + AllocGlobal>(rt: &R) -> io::Result<Vec<String>> {
     let mut words = Vec::new(rt.alloc());
     match env::args(rt) {

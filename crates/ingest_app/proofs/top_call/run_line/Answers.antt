@@ -1,8 +1,7 @@
 use Rattle.std.proofs.Common.{refl, subst, sym}
 use Rattle.ingest_app.specs.Convert.{EndsSource}
 use Rattle.ingest_app.specs.Ended.{Cause, Ended, Ends, EndsUnknown, LeavesDisk, LeavesInputs, LeavesSource}
-use Rattle.ingest_app.specs.Form.{HasFileName, form_read}
-use Rattle.ingest_app.specs.Form.Form.{Run, Convert, Unknown}
+use Rattle.ingest_app.specs.Form.{HasFileName, form_read, Run, Convert, Unknown}
 use Rattle.ingest_app.specs.Outside.{outside}
 use Rattle.ingest_app.specs.declared.command_line.CommandLine.{CommandLine}
 use Rattle.ingest_app.specs.Run.{EndsRun}
