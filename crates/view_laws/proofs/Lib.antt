@@ -2,3 +2,4 @@ mod Cutting
 mod Living
 mod Marked
 mod Walking
+mod Written
