@@ -8,4 +8,6 @@ mod disks;
 #[cfg(test)]
 mod group;
 #[cfg(test)]
+mod index;
+#[cfg(test)]
 mod root;

@@ -1,6 +1,6 @@
-mod ByKey
+pub mod ByKey
 mod Lesser
 mod LeastByKey
 mod LeastOfRun
-mod Seen
+pub mod Seen
 mod Stops

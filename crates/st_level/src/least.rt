@@ -12,8 +12,9 @@ use st_base::{Rows, Scratch};
 use st_order::{at_most, below};
 use st_overlap::{first_key_of, last_key_of, meets_range, meets_rows};
 
-// How many tables, which stand by key, end in front of the key.
-fn first_reaching<T: Rows>(tables: &[T], key: &[u8]) -> usize
+/// How many tables, which stand by key, end in front of the key: the index of the first whose last key reaches it, or the
+/// number of tables. One search by halves.
+pub fn first_reaching<T: Rows>(tables: &[T], key: &[u8]) -> usize
     requires { IsByKey (map T.rows tables.now) }
     ensures { result ≡ runs_before key.now (map T.rows tables.now) }
 {

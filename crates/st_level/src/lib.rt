@@ -10,5 +10,5 @@ mod least;
 mod rule;
 
 pub use choice::{Choice, Stop};
-pub use least::meets_by_key;
+pub use least::{first_reaching, meets_by_key};
 pub use rule::choose_level;
