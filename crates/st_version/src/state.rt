@@ -91,6 +91,13 @@ impl<T: Rows + Drop> State<T> {
         }
     }
 
+    /// The families by name.
+    pub fn families(&self) -> &BTreeMap<Family, Arc<FamilyView<T>>>
+        ensures { named_views result.now.entries ≡ self.now.families }
+    {
+        &self.families
+    }
+
     /// The live snapshots, the newest last.
     pub fn live(&self) -> &[Snapshot]
         ensures { result.now ≡ self.now.live }

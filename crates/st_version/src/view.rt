@@ -163,13 +163,13 @@ impl<T: Rows + Drop> FamilyView<T> {
         })
     }
 
-    /// The family with its memtable the newest of the sealed ones, and an empty one in its place.
+    /// The family with its memtable the newest of the sealed ones, settled in one run, and an empty one in its place.
     pub fn with_sealed(&self, alloc: Global) -> Result<FamilyView<T>, AllocError>
         ensures { IfOk result (λ family. family
             ≡ record self.now { mem = []; sealed = self.now.mem ∷ self.now.sealed }) }
     {
         let mut sealed = List::new(alloc);
-        sealed.push(self.mem.clone()?)?;
+        sealed.push(Arc::new(alloc, self.mem.settled()?)?)?;
         share_all(&mut sealed, self.sealed.as_slice())?;
         Ok(FamilyView {
             id: self.id,
