@@ -26,15 +26,22 @@ impl Model for Counted {
 }
 
 impl Counted {
-    /// The empty one.
-    pub fn new(alloc: Global) -> Counted
+    /// The empty one, whose first entry has the number after this one.
+    pub fn behind(alloc: Global, last: u64) -> Counted
         ensures { result.entries ≡ [] }
     {
         Counted {
             alloc,
             mem: Mem::new(alloc),
-            last: 0,
+            last,
         }
+    }
+
+    /// The empty one, whose first entry has the number 1.
+    pub fn new(alloc: Global) -> Counted
+        ensures { result.entries ≡ [] }
+    {
+        Counted::behind(alloc, 0)
     }
 
     /// The memtable.
@@ -42,6 +49,13 @@ impl Counted {
         ensures { result.now ≡ self.now }
     {
         &self.mem
+    }
+
+    /// The memtable, by itself.
+    pub fn into_mem(self) -> Mem
+        ensures { result ≡ self }
+    {
+        self.mem
     }
 
     /// With an entry of the key more, under the next number; none after the greatest number.
@@ -91,6 +105,19 @@ pub fn put(
         Some(more) => Ok(more),
         None => Err(AllocError),
     }
+}
+
+/// The memtable of these keys and values, numbered from the one after this.
+pub fn filled_behind(
+    alloc: Global,
+    last: u64,
+    pairs: &[(&[u8], &[u8])],
+) -> Result<Counted, AllocError> {
+    let mut counted = Counted::behind(alloc, last);
+    for pair in pairs.iter() {
+        counted = put(alloc, &counted, pair.0, pair.1)?;
+    }
+    Ok(counted)
 }
 
 /// The memtable of the first of these keys and values, numbered from 1.

@@ -1,4 +1,5 @@
-use crate::counted::{filled, key};
+use crate::counted::{Counted, filled, key};
+use crate::spelled::spelled;
 use st_base::Rows;
 use st_memtable::Mem;
 use st_merge::{Merge, scan};
@@ -51,26 +52,27 @@ fn runs_are_merged(rt: HostRuntime) {
     assert!(rt; is_right);
 }
 
-// The ends of a range, a number and a limit, and how many pairs a scan gives.
-type Case = (&'static [u8], &'static [u8], u64, usize, usize);
+// The ends of a range, a number and a limit, and the pairs that a scan gives.
+type Range = (&'static [u8], &'static [u8], u64, usize, &'static [u8]);
 
 // The newest entry at or below the number counts, a tombstone shows nothing, and a limit cuts.
-static SCANS: [Case; 7] = [
-    (b"a", b"z", 7, 10, 4),
-    (b"a", b"z", 4, 10, 4),
-    (b"a", b"z", 2, 10, 2),
-    (b"a", b"z", 0, 10, 0),
-    (b"b", b"f", 7, 10, 2),
-    (b"a", b"z", 7, 3, 3),
-    (b"a", b"z", 7, 0, 0),
+static SCANS: [Range; 7] = [
+    (b"a", b"z", 7, 10, b" a=7 e=3 f=6 g=4"),
+    (b"a", b"z", 4, 10, b" a=1 c=2 e=3 g=4"),
+    (b"a", b"z", 2, 10, b" a=1 c=2"),
+    (b"a", b"z", 0, 10, b""),
+    (b"b", b"f", 7, 10, b" e=3 f=6"),
+    (b"a", b"z", 7, 3, b" a=7 e=3 f=6"),
+    (b"a", b"z", 7, 0, b""),
 ];
 
-// Whether a scan gives so many pairs.
-fn is_scanned(alloc: Global, mem: &Mem, case: &Case) -> Result<bool, AllocError> {
+// Whether a scan gives these pairs.
+fn is_scanned(alloc: Global, mem: &Mem, case: &Range) -> Result<bool, AllocError> {
     let first = key(alloc, case.0)?;
     let last = key(alloc, case.1)?;
     let found = scan(alloc, mem.parts(), &first, &last, case.2, case.3)?;
-    Ok(found.len() == case.4)
+    let text = spelled(alloc, found.as_slice())?;
+    Ok(text.as_slice() == case.4)
 }
 
 #[test]
@@ -82,20 +84,28 @@ fn a_range_is_scanned(rt: HostRuntime) {
     }
 }
 
-// Whether a scan over three pairs, of which the first has a value of so many bytes, gives so many.
-fn ends_behind(alloc: Global, length: usize, pairs: usize) -> Result<bool, AllocError> {
+// The memtable of three pairs, of which the first has a value of so many bytes.
+fn three(alloc: Global, length: usize) -> Result<Counted, AllocError> {
     let long = vec![in alloc; b'v'; length]?;
-    let three: [(&[u8], &[u8]); 3] = [(b"a", long.as_slice()), (b"b", b"w"), (b"c", b"x")];
-    let counted = filled(alloc, &three, 3)?;
-    is_scanned(alloc, counted.mem(), &(b"a", b"z", 9, 10, pairs))
+    let pairs: [(&[u8], &[u8]); 3] = [(b"a", long.as_slice()), (b"b", b"w"), (b"c", b"x")];
+    filled(alloc, &pairs, 3)
+}
+
+// How many pairs a scan over all keys gives.
+fn count(alloc: Global, mem: &Mem) -> Result<usize, AllocError> {
+    let first = key(alloc, b"a")?;
+    let last = key(alloc, b"z")?;
+    let found = scan(alloc, mem.parts(), &first, &last, 9, 10)?;
+    Ok(found.len())
 }
 
 // A scan ends behind the pair with which its keys and values reach 1,048,576 bytes.
 #[test]
 fn a_scan_ends_by_bytes(rt: HostRuntime) {
     for (length, pairs) in [(1_048_575, 1), (1_048_574, 2)] {
-        let is_right = ends_behind(rt.alloc(), length, pairs).expect(&rt, "memory");
-        assert!(rt; is_right, "{length} bytes");
+        let counted = three(rt.alloc(), length).expect(&rt, "memory");
+        let found = count(rt.alloc(), counted.mem()).expect(&rt, "memory");
+        assert!(rt; found == pairs, "{length} bytes");
     }
 }
 
