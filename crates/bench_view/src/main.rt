@@ -1,7 +1,7 @@
 //! Measures memtables and views. `write N` puts N entries into a memtable, one a call, and prints its runs. `find N` looks N
 //! keys up in a family of 4 memtables and 20 tables, and prints how many are there. `scan N` scans N ranges of 10 keys in it,
-//! and prints how many pairs there are. `long N` scans 1,000 pairs N times over 10 tables of 100,000 entries each. The time
-//! is taken by the script around it. Without words it does each once over few entries.
+//! and prints how many pairs there are. `long N` scans 1,000 pairs N times over 10 tables of 100,000 entries each, and `short N`
+//! over 10 tables of 1,000. The time is taken by the script around it. Without words it does each once over few entries.
 #![tactic(auto)]
 
 mod family;
@@ -13,7 +13,7 @@ use std::alloc::{AllocError, Global};
 use std::rt::Env;
 use std::{env, io};
 
-// A family of 4 memtables and 20 tables, and one of 10 large tables.
+// A family of 4 memtables and 20 tables, one of 10 large tables, and one of 10 small ones.
 const MANY: Sizes = Sizes {
     table: 10_000,
     mem: 10_000,
@@ -24,6 +24,12 @@ const LONG: Sizes = Sizes {
     table: 100_000,
     mem: 0,
     range: 1_000_000,
+};
+
+const SHORT: Sizes = Sizes {
+    table: 1_000,
+    mem: 0,
+    range: 10_000,
 };
 
 const FEW: Sizes = Sizes {
@@ -49,10 +55,14 @@ fn scan(alloc: Global, sizes: Sizes, count: u64) -> Result<u64, AllocError> {
     scan_all(alloc, &view, sizes, count, 10, 1_000)
 }
 
-// Scans so many times up to 1,000 pairs of 10 large tables, and tells how many pairs there were.
+// Scans so many times 1,000 pairs of 10 tables, from keys behind which there are so many, and tells how many pairs there were.
 fn long(alloc: Global, sizes: Sizes, count: u64) -> Result<u64, AllocError> {
     let view = long_view(alloc, sizes)?;
-    scan_all(alloc, &view, sizes, count, sizes.range, 1_000)
+    let starts = Sizes {
+        range: sizes.range.saturating_sub(1_000),
+        ..sizes
+    };
+    scan_all(alloc, &view, starts, count, sizes.range, 1_000)
 }
 
 // Each of the four once, over few entries.
@@ -71,6 +81,7 @@ fn measured(alloc: Global, what: &str, count: u64) -> Result<u64, AllocError> {
         "write" => write(alloc, count),
         "find" => find(alloc, MANY, count),
         "scan" => scan(alloc, MANY, count),
+        "short" => long(alloc, SHORT, count),
         _ => long(alloc, LONG, count),
     }
 }
