@@ -1,3 +1,5 @@
 mod Named
 mod Options
 mod Events
+mod Written
+mod Refusals

@@ -5,17 +5,21 @@
 //! clause is the event's case of the core's step. `accept` then does it, takes no memory and isn't refused. What needs no
 //! memory is done at once. Want of memory leaves the core as it was.
 //!
-//! Events that are here: Snap, Release, JobGivenUp, TurnReturned. The others aren't here yet.
+//! Events that are here: Write, Snap, Release, MakeFamily, DropFamily, Seal, JobGivenUp, TurnReturned. The others aren't here yet.
 #![tactic(auto)]
 
 mod families;
+mod family_events;
 mod input;
 mod job;
 mod jobs;
 mod machine;
+mod opening;
+mod operations;
 mod shared;
 mod snapshots;
 mod turn;
+mod write;
 
 pub use input::Input;
 pub use job::Job;

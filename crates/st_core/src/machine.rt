@@ -1,13 +1,18 @@
-ghost use Rattle.std.specs.Prelude.{◌≡◌, [], IfOk, is_some, nat_le, None};
-ghost use Rattle.st_model.specs.State.{greatest_number};
+ghost use Rattle.std.specs.Prelude.{◌≡◌, [], IfOk, IfSome, is_some, length, nat_le, None};
+ghost use Rattle.st_base.specs.Map.{changed_at, value_at};
+ghost use Rattle.st_model.specs.State.{greatest_number, has_family};
+ghost use Rattle.core_model.specs.Commit.{outline};
+ghost use Rattle.core_model.specs.Picture.{FamilyView as FamilyPicture};
 ghost use Rattle.core_model.specs.StatePicture.{state_of};
+ghost use Rattle.st_core.specs.Written.{AreWithin, IsWithin};
 
+use crate::families::Families;
 use crate::job::Job;
 use crate::shared::{share, share_all};
 use crate::turn::Turn;
 use core_model::CoreReply;
-use st_base::{GREATEST_NUMBER, Listed, Rows};
-use st_version::State;
+use st_base::{Family, GREATEST_NUMBER, List, Listed, Rows};
+use st_version::{FamilyView, State};
 use std::alloc::{AllocError, Global};
 use std::marker::Model;
 use std::sync::Arc;
@@ -31,6 +36,7 @@ pub type Core = CoreOf<Listed>;
 impl<T: Rows + Drop> Model for CoreOf<T> {
     ghost use Rattle.core_model.specs.Picture.{Core as CorePicture};
     ghost use Rattle.st_core.specs.Shared.{jobs_shared, turn_shared};
+    ghost use Rattle.st_core.specs.Written.{AreWithin};
 
     ghost Value = { CorePicture };
 
@@ -47,6 +53,8 @@ impl<T: Rows + Drop> Model for CoreOf<T> {
       jobs_made = core.jobs_made;
       turn = turn_shared core.turn;
     } };
+
+    ghost invariant = { λ core. AreWithin core.state.value.last core.state.value.families };
 }
 
 /// What an event does: its answer, and the core after it. It is made beside the core, with all the memory that the event
@@ -58,8 +66,10 @@ pub struct PreparedStep<T: Rows + Drop> {
 }
 
 impl<T: Rows + Drop> CoreOf<T> {
-    /// The core after an opening: at place 0, with this state, and without jobs and turn. The next family gets this id.
+    /// The core after an opening: at place 0, with this state, and without jobs and turn. The next family gets this id. No
+    /// entry of a memtable that is written to may be above the state's last number.
     pub fn opened(alloc: Global, state: Arc<State<T>>, next_family: u32, capacity: u64) -> CoreOf<T>
+        requires { AreWithin state.value.last state.value.families }
         ensures state { state_of result ≡ state.value }
         ensures place { result.place ≡ 0 }
         ensures capacity { result.capacity ≡ capacity }
@@ -113,6 +123,7 @@ impl<T: Rows + Drop> CoreOf<T> {
 
     // The core at this place, with this state.
     pub(crate) fn moved(&self, state: State<T>, place: u64) -> Result<CoreOf<T>, AllocError>
+        requires { AreWithin state.last state.families }
         ensures { IfOk result (λ core. core ≡ record self.now {
           behind = state.behind;
           place = place;
@@ -132,6 +143,42 @@ impl<T: Rows + Drop> CoreOf<T> {
             jobs_made: self.jobs_made,
             turn: share(&self.turn)?,
         })
+    }
+
+    // The core at this place, with these families.
+    pub(crate) fn with_families(
+        &self,
+        families: Families<T>,
+        place: u64,
+    ) -> Result<CoreOf<T>, AllocError>
+        requires { AreWithin self.now.last families }
+        ensures { IfOk result (λ core. core ≡ record self.now { place = place; families = families }) }
+    {
+        let next = State::new(
+            self.state.last(),
+            self.state.behind(),
+            self.state.charge(),
+            families.into_map(),
+            List::from_slice(self.alloc, self.state.live())?,
+        );
+        self.moved(next, place)
+    }
+
+    // The core with this view in the place of the one of this name, where there is one: this is each change that makes the
+    // view of that one.
+    pub(crate) fn with_view(
+        &self,
+        name: &Family,
+        view: Arc<FamilyView<T>>,
+    ) -> Result<CoreOf<T>, AllocError>
+        requires { IsWithin self.now.last view.value.mem }
+        ensures { IfOk result (λ core. (change : FamilyPicture → FamilyPicture)
+            → IfSome (value_at self.now.families name.now) (λ family. view.value ≡ change family)
+            → core ≡ record self.now { families = changed_at self.now.families name.now change }) }
+    {
+        let mut families = Families::new(&self.state)?;
+        families.replace(name, view);
+        self.with_families(families, self.place)
     }
 
     // The same core.
@@ -159,6 +206,20 @@ impl<T: Rows + Drop> CoreOf<T> {
             reply,
             next: self.same()?,
         })
+    }
+
+    // Whether there is a family of the name.
+    pub(crate) fn has_family(&self, name: &Family) -> bool
+        ensures { result ≡ has_family (outline self.now) name.now }
+    {
+        self.state.family(name).is_some()
+    }
+
+    // How many families there are.
+    pub(crate) fn family_count(&self) -> usize
+        ensures { result ≡ length self.now.families }
+    {
+        self.state.families().len()
     }
 
     // Whether the place can't grow any more.
