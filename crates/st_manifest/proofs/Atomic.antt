@@ -50,7 +50,7 @@ all_whole begun [] counts = absurd counts
 all_whole begun (one ∷ []) counts = ap (λ (b : Bool). cond b (begun ++ one ∷ []) []) (ap (λ (m : ℕ). m == 0) counts)
 all_whole begun (one ∷ two ∷ more) counts = begun_more begun one (two ∷ more) two.left counts.0 ∙ all_whole (begun ++ one ∷ []) (two ∷ more) counts.1 ∙ assoc_one begun one (two ∷ more)
 
-edits_append : (xs ys : List GroupRecord) → edits_of (xs ++ ys) ≡ edits_of xs ++ edits_of ys
+pub edits_append : (xs ys : List GroupRecord) → edits_of (xs ++ ys) ≡ edits_of xs ++ edits_of ys
 edits_append [] ys = refl
 edits_append (x ∷ xs) ys = ap (λ (l : List Edit). x.edits ++ l) (edits_append xs ys) ∙ sym (append_assoc x.edits (edits_of xs) (edits_of ys))
 

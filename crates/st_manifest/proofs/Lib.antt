@@ -7,3 +7,7 @@ pub mod Groups
 pub mod Ready
 pub mod Rooting
 pub mod Atomic
+pub mod Judges
+pub mod Taking
+pub mod Replayed
+pub mod Naming

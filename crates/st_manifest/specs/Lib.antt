@@ -5,5 +5,7 @@ pub mod Laid
 pub mod Behind
 pub mod Readings
 pub mod Manifest
+pub mod Judging
+pub mod Replaying
 pub mod Root
 pub mod Laws

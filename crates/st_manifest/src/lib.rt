@@ -8,13 +8,16 @@
 mod append;
 mod edit;
 mod group;
+mod judge;
 mod laws;
 mod manifest;
 mod payload;
+mod replay;
 mod root;
 
 pub use edit::Edit;
-pub use group::Group;
-pub use laws::group_is_atomic;
+pub use group::{Group, can_be_group};
+pub use judge::are_right;
+pub use laws::{group_is_atomic, replayed_name_that};
 pub use manifest::Manifest;
 pub use root::{MARK_FILE, ROOT_FILE, RootRecord, root_append, root_make, root_replay};
