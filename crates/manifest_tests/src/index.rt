@@ -16,12 +16,7 @@ enum Row {
 }
 
 // Whether the index takes a family of this name.
-fn takes_family(
-    alloc: Global,
-    index: &mut NamedIndex,
-    id: u32,
-    name: &[u8],
-) -> Result<bool, Fail> {
+fn takes_family(alloc: Global, index: &mut NamedIndex, id: u32, name: &[u8]) -> Result<bool, Fail> {
     let name = Family::new(alloc, name)?;
     Ok(index.add_family(id, &name)?)
 }

@@ -1,9 +1,9 @@
 -- Edits are judged one after the other.
-use Rattle.std.proofs.Common.{◌≡◌, ℕ, suc, is_some, true≢false, ◌-◌, ◌+◌, ◌<◌, ◌≤◌, Bool, true, false, cond, not, ◌&&◌, ◌==◌, List, [], ◌∷◌, ◌++◌, length, map, drop, get_or, Option, Some, None, Result, Ok, Err, refl, sym, ◌∙◌, ap, subst, arith}
+use Rattle.std.proofs.Common.{◌≡◌, ℕ, suc, is_some, true≢false, ◌-◌, ◌+◌, ◌<◌, ◌≤◌, Bool, true, false, cond, not, ◌&&◌, ◌==◌, List, [], ◌∷◌, length, map, drop, get_or, Option, Some, None, Result, Ok, Err, refl, sym, ◌∙◌, ap, subst, arith}
 use Rattle.std.proofs.lemmas.Bool.Decides.{nat_tests}
 use Rattle.std.specs.List.{list_all}
 use Rattle.std.proofs.lemmas.List.{drop_all, drop_more, length-drop, length-map}
-use Rattle.manifest_edits.specs.Edits.{Edit as NamedEdit, GroupRecord, Named, edited, edited_all, edited_by, ends_with_last, is_last_edit, is_right}
+use Rattle.manifest_edits.specs.Edits.{Edit as NamedEdit, GroupRecord, Named, edited, edited_all, ends_with_last, is_last_edit, is_right}
 use Rattle.named_index.specs.Knows.{IsJudged, Knows}
 use Rattle.named_index.specs.declared.index.NamedIndex.{NamedIndex}
 use Rattle.st_manifest.specs.Edit.{as_edit}

@@ -1,8 +1,7 @@
 -- The edits of whole groups name what their records name.
-use Rattle.std.proofs.Common.{◌≡◌, ℕ, Bool, true, false, cond, List, [], ◌∷◌, ◌++◌, Option, Some, None, Result, Ok, Err, refl, sym, ◌∙◌, ap, subst}
+use Rattle.std.proofs.Common.{◌≡◌, ℕ, Bool, true, false, cond, List, [], ◌∷◌, ◌++◌, Option, Some, None, Result, Ok, Err, refl, sym, ◌∙◌, ap}
 use Rattle.std.specs.Prelude.{◌==◌}
-use Rattle.manifest_edits.specs.Edits.{Edit, GroupRecord, ManifestReading, Named, edited_all, edited_by, edits_of, ends_with_last, follows_in_group, group_closed, manifest_reading_none, named_none, read_record, read_records}
-use Rattle.manifest_edits.specs.Logs.{LogFound}
+use Rattle.manifest_edits.specs.Edits.{Edit, GroupRecord, ManifestReading, Named, edited_all, edited_by, edits_of, ends_with_last, follows_in_group, group_closed, manifest_reading_none, named_none, read_records}
 use Rattle.manifest_edits.proofs.Cut.{edited_append, then_edits}
 use Rattle.manifest_edits.proofs.Reading.{assoc_one, reading_of}
 use Rattle.st_manifest.specs.Laws.{ReplayedNameThat}

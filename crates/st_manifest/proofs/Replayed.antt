@@ -1,5 +1,5 @@
 -- What is replayed of a manifest's file.
-use Rattle.std.proofs.Common.{◌≡◌, ◌⊎◌, inl, inr, ⊎_elim, ℕ, List, [], ◌∷◌, Option, Some, None, Result, Ok, Err, refl, sym, ◌∙◌, ap, subst}
+use Rattle.std.proofs.Common.{◌≡◌, ◌⊎◌, inl, inr, ⊎_elim, ℕ, List, [], ◌∷◌, Option, Some, None, Result, Ok, Err, refl, sym, ◌∙◌, ap}
 use Rattle.manifest_edits.specs.Edits.{Edit, GroupRecord, ManifestReading, manifest_reading_none, read_records}
 use Rattle.manifest_edits.specs.Logs.{LogReading, LogFound}
 use Rattle.st_gate.specs.Damage.{ended}

@@ -2,11 +2,10 @@
 use Rattle.std.proofs.Common.{◌≡◌, ℕ, ◌-◌, ◌+◌, ◌<◌, ◌≤◌, Bool, true, false, cond, ◌==◌, List, [], ◌∷◌, ◌++◌, length, map, take, drop, get_or, Option, Some, None, Result, Ok, Err, refl, sym, ◌∙◌, ap, subst, arith, append-nil, append_assoc, length-append}
 use Rattle.std.specs.Prelude.{option_map}
 use Rattle.std.proofs.lemmas.Bool.Decides.{nat_tests}
-use Rattle.std.proofs.lemmas.List.{drop-append-le, drop-map, drop_all, drop_at, drop_more, length-drop, length-map, take-append-drop, take-append-le, take-map, take_all}
+use Rattle.std.proofs.lemmas.List.{drop-append-le, drop-map, drop_all, drop_at, drop_more, length-map, take-append-drop, take-append-le, take-map, take_all}
 use Rattle.manifest_edits.specs.Edits.{Edit as NamedEdit, GroupRecord, ManifestReading, Named, edited_all, edited_by, edits_of, ends_with_last, follows_in_group, group_closed, group_edited, manifest_reading_none, read_record, read_records}
 use Rattle.manifest_edits.specs.Logs.{LogReading, LogAbsent, LogFound}
 use Rattle.manifest_edits.proofs.Reading.{assoc_one, reading_of}
-use Rattle.named_index.specs.Knows.{Knows}
 use Rattle.named_index.specs.declared.index.NamedIndex.{NamedIndex}
 use Rattle.st_gate.specs.declared.record.Record.{Record}
 use Rattle.st_manifest.specs.Edit.{as_edit}
@@ -159,46 +158,46 @@ something_read left old new (Some found) is = (found.1, (ap (λ (n : ℕ). paire
 
 module _ (old : Replaying) (one : Record) (left : ℕ) (edits : List Edit) (read : IsPayloadRead (Some left) old.edits edits (payload_read one.payload))
     (reading : ManifestReading) (found : List NamedEdit) (so : IsReplaying old reading found) where
-  abbrev more : List NamedEdit
-  more = (something_read left old.edits edits (payload_read one.payload) read).0
+  abbrev edits_read : List NamedEdit
+  edits_read = (something_read left old.edits edits (payload_read one.payload) read).0
 
-  added : map as_edit edits ≡ map as_edit old.edits ++ more
+  added : map as_edit edits ≡ map as_edit old.edits ++ edits_read
   added = (something_read left old.edits edits (payload_read one.payload) read).1.1
 
-  abbrev next : GroupRecord
-  next = record { at = one.at; left = left; edits = more }
+  abbrev record_read : GroupRecord
+  record_read = record { at = one.at; left = left; edits = edits_read }
 
-  next_is : group_record one ≡ Some next
+  next_is : group_record one ≡ Some record_read
   next_is = ap (λ (o : Option (ℕ × List NamedEdit)). option_map (group_record_at one.at) o) (something_read left old.edits edits (payload_read one.payload) read).1.0
 
   pub take_apart : (new : Replaying) (damage : Option ℕ) → follows_left old.left left ≡ false → damage ≡ Some one.at → HasTaken new damage one.at reading found (group_record one)
-  take_apart new damage apart is = taken_of new damage one.at reading found (group_record one) next next_is (taken_apart reading found next new damage (so.follows next ∙ apart) is)
+  take_apart new damage apart is = taken_of new damage one.at reading found (group_record one) record_read next_is (taken_apart reading found record_read new damage (so.follows record_read ∙ apart) is)
 
   module _ (follows : follows_left old.left left ≡ true) (index : NamedIndex) (fault : Option ℕ)
       (part : List Edit) (is_part : part ≡ drop (length old.edits) edits)
       (judged : (so_far : Result Named ℕ) (k : ℕ) → IsNamedSoFar old.index old.fault so_far → IsNamedSoFar index fault (edited_next so_far (record { at = one.at; left = k; edits = map as_edit part }))) where
-    comes : follows_in_group reading.begun next ≡ true
-    comes = so.follows next ∙ follows
+    comes : follows_in_group reading.begun record_read ≡ true
+    comes = so.follows record_read ∙ follows
 
-    named_now : IsNamedSoFar index fault (edited_by reading.named (reading.begun ++ next ∷ []))
+    named_now : IsNamedSoFar index fault (edited_by reading.named (reading.begun ++ record_read ∷ []))
     named_now =
-        subst (λ (r : Result Named ℕ). IsNamedSoFar index fault r) (sym (edited_behind reading.named reading.begun next))
+        subst (λ (r : Result Named ℕ). IsNamedSoFar index fault r) (sym (edited_behind reading.named reading.begun record_read))
         (subst (λ (l : List NamedEdit). IsNamedSoFar index fault (edited_next (edited_by reading.named reading.begun) (record { at = one.at; left = left; edits = l })))
-        (ap (λ (l : List Edit). map as_edit l) is_part ∙ added_are old.edits edits more added) (judged (edited_by reading.named reading.begun) left so.named))
+        (ap (λ (l : List Edit). map as_edit l) is_part ∙ added_are old.edits edits edits_read added) (judged (edited_by reading.named reading.begun) left so.named))
 
-    group_is : map as_edit (drop old.whole edits) ≡ edits_of (reading.begun ++ next ∷ [])
+    group_is : map as_edit (drop old.whole edits) ≡ edits_of (reading.begun ++ record_read ∷ [])
     group_is =
-        rest_grows old.edits edits more added old.whole so.within ∙ ap (λ (l : List NamedEdit). l ++ more) so.begun
-        ∙ sym (edits_behind reading.begun next)
+        rest_grows old.edits edits edits_read added old.whole so.within ∙ ap (λ (l : List NamedEdit). l ++ edits_read) so.begun
+        ∙ sym (edits_behind reading.begun record_read)
 
     pub take_begun : (left == 0) ≡ false → HasTaken (record { edits = edits; whole = old.whole; left = Some left; fault = fault; index = index }) None one.at reading found (group_record one)
     take_begun goes_on =
         let new : Replaying = record { edits = edits; whole = old.whole; left = Some left; fault = fault; index = index } in
-        taken_of new None one.at reading found (group_record one) next next_is (taken_begun reading found next new None comes goes_on refl (record {
-          within = still_within old.edits edits more added old.whole so.within;
-          whole = front_stays old.edits edits more added old.whole so.within ∙ so.whole;
+        taken_of new None one.at reading found (group_record one) record_read next_is (taken_begun reading found record_read new None comes goes_on refl (record {
+          within = still_within old.edits edits edits_read added old.whole so.within;
+          whole = front_stays old.edits edits edits_read added old.whole so.within ∙ so.whole;
           begun = group_is;
-          follows = λ other. follows_behind reading.begun next other;
+          follows = λ other. follows_behind reading.begun record_read other;
           named = named_now;
         }))
 
@@ -206,9 +205,9 @@ module _ (old : Replaying) (one : Record) (left : ℕ) (edits : List Edit) (read
         → HasTaken (record { edits = edits; whole = count; left = None; fault = fault; index = index }) damage one.at reading found (group_record one)
     take_whole ends count counted damage is =
         let new : Replaying = record { edits = edits; whole = count; left = None; fault = fault; index = index } in
-        taken_of new damage one.at reading found (group_record one) next next_is
-        (taken_whole reading found next new damage comes ends (map as_edit (drop old.whole edits)) group_is counted
-        (both_parts old.whole edits ∙ ap (λ (l : List NamedEdit). l ++ map as_edit (drop old.whole edits)) (front_stays old.edits edits more added old.whole so.within ∙ so.whole)) refl named_now is)
+        taken_of new damage one.at reading found (group_record one) record_read next_is
+        (taken_whole reading found record_read new damage comes ends (map as_edit (drop old.whole edits)) group_is counted
+        (both_parts old.whole edits ∙ ap (λ (l : List NamedEdit). l ++ map as_edit (drop old.whole edits)) (front_stays old.edits edits edits_read added old.whole so.within ∙ so.whole)) refl named_now is)
 
 pub positive : (n : ℕ) → 0 < n → (n == 0) ≡ false
 positive n some = grind (arith, nat_tests, some)

@@ -1,4 +1,4 @@
-use Rattle.std.proofs.Common.{◌∙◌, ◌<◌, ◌≤◌, List, ℕ, Option, Some, ap, arith, drop, map, subst, sym}
+use Rattle.std.proofs.Common.{◌∙◌, List, ℕ, Option, Some, ap, arith, drop, map, subst, sym}
 use Rattle.st_manifest.specs.Edit.{as_edit}
 use Rattle.st_manifest.specs.Payload.{payload_read}
 use Rattle.st_manifest.specs.Reads.{IsPayloadRead}
