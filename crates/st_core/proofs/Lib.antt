@@ -3,3 +3,5 @@ mod Options
 mod Events
 mod Written
 mod Refusals
+mod InstalledJobs
+mod Flushes

@@ -5,12 +5,17 @@
 //! clause is the event's case of the core's step. `accept` then does it, takes no memory and isn't refused. What needs no
 //! memory is done at once. Want of memory leaves the core as it was.
 //!
-//! Events that are here: Write, Snap, Release, MakeFamily, DropFamily, Seal, JobGivenUp, TurnReturned. The others aren't here yet.
+//! Events that are here: Write, Snap, Release, MakeFamily, DropFamily, Seal, FlushPicked, FlushInstalled, CompactInstalled,
+//! JobGivenUp, TurnReturned. The others aren't here yet. What an installation asks of who brings it is `IsAdmissible`.
 #![tactic(auto)]
 
+mod compaction;
+mod copies;
 mod families;
 mod family_events;
+mod flush;
 mod input;
+mod installs;
 mod job;
 mod jobs;
 mod machine;
