@@ -1,0 +1,9 @@
+mod Lesser
+mod Bools
+mod Twice
+mod Touching
+mod Blame
+mod Falling
+mod Walked
+mod Taking
+mod Along
