@@ -1,0 +1,16 @@
+use Rattle.std.proofs.Common.{◌≡◌, ◌∷◌, [], ◌∙◌, ap, refl}
+use Rattle.std.specs.Arc.{arc_value}
+use Rattle.st_publish.specs.declared.entry.HistoryEntry.TheVariants.{Opened}
+use Rattle.st_publish.proofs.Prefixes.{prefix_self}
+use Rattle.st_publish.proofs.opening.open_history.Goals as goal
+
+pub show-writer-requires-clause-later : goal.show-writer-requires-clause-later
+show-writer-requires-clause-later g c =
+    let f : c.in_ok-writer.writer.desk.shown.value ≡ ((arc_value c.args.state, 0), c.again-2.result) = c.in_ok-writer.ensures.0 in
+    let o : c.again-2.result ≡ c.note.new.prefix = c.again-2.ensures in
+    (ap (λ s. s.1.book) f ∙ ap (λ t. t.book) o, rw (ap (λ s. s.1.list) f, ap (λ t. t.list) o) (prefix_self c.note.new.prefix.list))
+
+pub returns-in-Ok-clause-viewers : goal.returns-in-Ok-clause-viewers
+returns-in-Ok-clause-viewers g c =
+    let first : c.of-told.result ≡ Opened (arc_value c.args.state) ∷ [] = c.of-told.ensures ∙ (ap (λ t. t.list) c.again.ensures ∙ (c.note.ensures.list ∙ rw (c.named-word.ensures.0, c.of.ensures, c.deref.ensures) refl)) in
+    (c.in-Ok.ensures.seats, λ k d lt. c.in-Ok.ensures.told k d lt ∙ first)

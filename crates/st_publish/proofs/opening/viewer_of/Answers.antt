@@ -1,0 +1,12 @@
+use Rattle.std.proofs.Common.{rules}
+use Rattle.st_publish.proofs.Rises.{admits, forks, merges}
+use Rattle.st_publish.proofs.opening.viewer_of.Goals as goal
+
+pub reader-requires : goal.reader-requires
+reader-requires g c = admits
+
+pub tell-requires : goal.tell-requires
+tell-requires g c = forks _ _
+
+pub learn-requires-clause-rule : goal.learn-requires-clause-rule
+learn-requires-clause-rule g c = merges _ _ _ _

@@ -1,0 +1,5 @@
+pub mod Standing
+pub mod History
+pub mod Prefix
+pub mod Publisher
+pub mod Rule
