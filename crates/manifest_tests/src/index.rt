@@ -36,14 +36,12 @@ fn takes(alloc: Global, index: &mut NamedIndex, row: Row) -> Result<bool, Fail> 
 
 // How many of the edits are right up to the first that isn't.
 fn right_edits(alloc: Global, index: &mut NamedIndex, rows: &[Row]) -> Result<usize, Fail> {
-    let mut right = 0;
-    for row in rows {
+    for (right, row) in rows.iter().enumerate() {
         if !takes(alloc, index, *row)? {
             return Ok(right);
         }
-        right += 1;
     }
-    Ok(right)
+    Ok(rows.len())
 }
 
 // Edits of families, and how many are right up to the first that isn't.
