@@ -1,9 +1,8 @@
 -- What standing in a history means, by pictures of the model.
-use Rattle.std.proofs.Common.{◌≡◌, ℕ, ◌<◌, List, [], ◌∷◌, ◌++◌, length, map, refl, sym, ◌∙◌, ap, arith, subst}
+use Rattle.std.proofs.Common.{◌≡◌, ◌<◌, List, [], ◌∷◌, ◌++◌, length, map, refl, sym, ◌∙◌, ap, arith}
 use Rattle.core_laws.proofs.StateContents.{state_has_contents, state_is_opened}
 use Rattle.core_model.specs.StatePicture.{CoreRepresentsState, StatePicture}
 use Rattle.st_model.specs.Apply.{apply, apply_all}
-use Rattle.st_model.specs.declared.change.Change.{Change}
 use Rattle.st_model.specs.declared.state.ModelState.{ModelState}
 use Rattle.publish_laws.specs.Claims.{AcceptedApplies, BeginsOpened, ContentsAreTheModels, CoreStands, PlaceCounts, StandingIsPicture}
 use Rattle.st_publish.specs.declared.entry.Accepted.{Accepted}

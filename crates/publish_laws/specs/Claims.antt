@@ -11,8 +11,7 @@ use Rattle.st_model.specs.declared.change.Change.{Change}
 use Rattle.st_model.specs.declared.state.ModelState.{ModelState}
 use Rattle.st_publish.specs.declared.entry.HistoryEntry.{HistoryEntry}
 use Rattle.st_publish.specs.declared.entry.HistoryEntry.TheVariants.{Opened}
-use Rattle.st_publish.specs.History.{StandsIn, changes_of, made, model_after, begun_with}
-use Rattle.st_publish.specs.Standing.{first_state}
+use Rattle.st_publish.specs.History.{StandsIn, changes_of, made, model_after}
 
 -- a state stands for a history at a place exactly where it is a picture of the model after it
 abbrev pub StandingIsPicture : Type 0

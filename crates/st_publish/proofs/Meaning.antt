@@ -7,7 +7,7 @@ use Rattle.st_model.specs.declared.change.Change.TheVariants.{Write, Snap, Relea
 use Rattle.st_model.specs.declared.state.ModelState.{ModelState}
 use Rattle.st_publish.specs.declared.entry.Accepted.{Accepted}
 use Rattle.st_publish.specs.declared.entry.HistoryEntry.{HistoryEntry}
-use Rattle.st_publish.specs.Standing.{StandsFor, first_state, is_quiet, state_after}
+use Rattle.st_publish.specs.Standing.{StandsFor, first_state, is_quiet}
 use Rattle.st_publish.specs.History.{StandsIn, changes_of, begun_with, model_after}
 
 place_grows : (state : ModelState) (change : Change) → (apply state change).place ≡ state.place + 1

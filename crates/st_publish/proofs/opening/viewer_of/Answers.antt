@@ -1,4 +1,3 @@
-use Rattle.std.proofs.Common.{rules}
 use Rattle.st_publish.proofs.Rises.{admits, forks, merges}
 use Rattle.st_publish.proofs.opening.viewer_of.Goals as goal
 

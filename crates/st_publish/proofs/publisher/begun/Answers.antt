@@ -1,4 +1,4 @@
-use Rattle.std.proofs.Common.{sym, ◌∙◌, refl}
+use Rattle.std.proofs.Common.{sym, refl}
 use Rattle.st_publish.proofs.Prefixes.{prefix_self}
 use Rattle.st_publish.proofs.publisher.begun.Goals as goal
 

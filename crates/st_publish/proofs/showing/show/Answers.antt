@@ -1,6 +1,4 @@
-use Rattle.std.proofs.Common.{◌≡◌, sym, ◌∙◌, ap, subst}
-use mathlib.Core.List.{IsPrefix}
-use Rattle.st_publish.specs.declared.published.Published.{Published}
+use Rattle.std.proofs.Common.{◌≡◌}
 use Rattle.st_publish.proofs.Rises.{rises}
 use Rattle.st_publish.proofs.showing.show.Goals as goal
 

@@ -1,4 +1,4 @@
-use Rattle.std.proofs.Common.{◌≡◌, ◌++◌, ◌∷◌, [], sym, ◌∙◌, ap, refl, Some, rules}
+use Rattle.std.proofs.Common.{◌≡◌, ◌++◌, ◌∷◌, [], sym, ◌∙◌, ap, refl, Some}
 use Rattle.std.specs.Arc.{arc_value}
 use Rattle.st_publish.specs.History.{StandsIn, has_stop, made}
 use Rattle.st_publish.proofs.Many.{stop_kept}
