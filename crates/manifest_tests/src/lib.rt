@@ -10,4 +10,6 @@ mod group;
 #[cfg(test)]
 mod index;
 #[cfg(test)]
+mod replay;
+#[cfg(test)]
 mod root;
